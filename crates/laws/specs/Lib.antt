@@ -1,0 +1,11 @@
+pub mod Bound
+pub mod Diff
+pub mod Floor
+pub mod Lists
+pub mod Nearest
+pub mod Order
+pub mod Ring
+pub mod Rules
+pub mod Signed
+pub mod Tests
+pub mod Text
