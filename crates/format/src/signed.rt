@@ -2,7 +2,7 @@
 ghost use mathlib.Core.Path.{_≡_};
 ghost use mathlib.Core.Bool.{true};
 ghost use Prim.Native.Nat.{_<_, _^_};
-ghost use lib.IntN.{pos, negsuc};
+ghost use lib.IntN.{pos, negsuc, natAbs};
 ghost use mir.Syntax.{w64};
 ghost use mir.Val.{SFits};
 ghost use Rattle.format.specs.declared.Manner.the-variants.{Strict, Saturating, Wrapping, Overflowing};
@@ -108,6 +108,16 @@ pub fn with_sign(neg: bool, magnitude: u64) -> i64
         return below_zero(magnitude - 1);
     }
     not_negative(magnitude)
+}
+
+// |x|, of every signed word: -2^63 has one too.
+pub fn magnitude(x: i64) -> u64
+    ensures { λ r. ⌜ r ≡ natAbs x ⌝ }
+{
+    if x < 0 {
+        return (-1 - x) as u64 + 1;
+    }
+    x as u64
 }
 
 // A residue modulo 2^W as the raw of the range that it stands for.
