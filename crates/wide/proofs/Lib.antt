@@ -1,0 +1,3 @@
+-- Laws on plain numbers that the proofs of the functions cite.
+mod Columns
+mod Order
