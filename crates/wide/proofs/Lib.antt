@@ -1,3 +1,4 @@
 -- Laws on plain numbers that the proofs of the functions cite.
+mod Carry
 mod Columns
 mod Order
