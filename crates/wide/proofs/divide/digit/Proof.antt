@@ -1,60 +1,54 @@
+-- `wide::divide::digit` meets its contract: the guess is the digit, or one or two above it (`LongDivision`). Assumes nothing.
+use Prim.Native.Nat.{_/_, _^_}
+use native.Mathlib.Omega.{arith}
+use native.Mathlib.Nat.{mod-lt}
+use lib.Bits.{bitAnd, and-mask}
 use borrow.Author.Needs.{needs}
+use Rattle.wide.proofs.LongDivision.{Digit, back-lt, right, guess-pos, one-less, guess-more, rest-le, two-less}
 use Rattle.wide.proofs.divide.digit.Statement.{statement}
 use Rattle.wide.proofs.divide.digit.Tie as tie
-use Rattle.wide.proofs.divide.digit.Reads as reads
-use Rattle.wide.proofs.divide.digit.Lts as lts
 
--- src/divide.rt:23:17
+given : (c : tie.Start) → Digit (c .args .high) (c .args .low) (c .args .d) (bitAnd (c .args .d) 0xffff_ffff)
+given c = record { top = c .pre .0; below = c .pre .1; small = c .pre .2; half = and-mask (c .args .d) 32 }
+
 div-guess : tie.Need-div-guess
 div-guess c = search needs
 
--- src/divide.rt:24:18
 rem-there : tie.Need-rem-there
 rem-there c = search needs
 
--- src/divide.rt:24:17
 mul-there : tie.Need-mul-there
-mul-there c = ?
+mul-there c = omega (arith, mod-lt (c .args .high) {m = c .args .d / 2 ^ 32} (omega arith))
 
--- src/divide.rt:24:17
 add-there : tie.Need-add-there
-add-there c = ?
+add-there c = omega (arith, mod-lt (c .args .high) {m = c .args .d / 2 ^ 32} (omega arith))
 
--- src/divide.rt:25:16
 mul-back : tie.Need-mul-back
-mul-back c = ?
+mul-back c = record { fits = back-lt (given c) }
 
--- src/divide.rt:27:9
 returns : tie.Need-returns
-returns c = ?
+returns c = right (given (c .before)) (c .if1 .taken)
 
--- src/divide.rt:32:16
 sub-over : tie.Need-sub-over
 sub-over c = search needs
 
--- src/divide.rt:35:23
 sub-t13 : tie.Need-sub-t13
-sub-t13 c = ?
+sub-t13 c = guess-pos (given (c .before .before)) (c .before .if1 .left)
 
--- src/divide.rt:34:9
 returns-2 : tie.Need-returns-2
-returns-2 c = ?
+returns-2 c = one-less (given (c .before .before)) (c .before .if1 .left) (c .if2 .taken)
 
--- src/divide.rt:40:19
 sub-t10 : tie.Need-sub-t10
-sub-t10 c = ?
+sub-t10 c = guess-more (given (c .before .before)) (c .before .if1 .left) (c .if2 .left)
 
--- src/divide.rt:41:20
 sub-t9 : tie.Need-sub-t9
 sub-t9 c = search needs
 
--- src/divide.rt:41:15
 sub-t8 : tie.Need-sub-t8
-sub-t8 c = ?
+sub-t8 c = rest-le (given (c .before .before)) (c .before .if1 .left) (c .if2 .left)
 
--- src/divide.rt:19:1
 returns-3 : tie.Need-returns-3
-returns-3 c = ?
+returns-3 c = two-less (given (c .before .before)) (c .before .if1 .left) (c .if2 .left)
 
 pub digit-spec : {M : Type 1} → statement M
 digit-spec =
