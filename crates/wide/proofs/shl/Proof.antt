@@ -1,48 +1,43 @@
+-- `wide::shl` meets its contract, by fewer than 64 places, fewer than 128, and more (`Shifts`). Assumes nothing.
 use borrow.Author.Needs.{needs}
+use Rattle.wide.specs.Meaning.{valueOf}
+use Rattle.wide.proofs.Shifts.{left-bits, left-word, left-none}
 use Rattle.wide.proofs.shl.Statement.{statement}
 use Rattle.wide.proofs.shl.Tie as tie
-use Rattle.wide.proofs.shl.Reads as reads
-use Rattle.wide.proofs.shl.Lts as lts
 
--- src/lib.rt:120:20
 shl-t5 : tie.Need-shl-t5
 shl-t5 c = search needs
 
--- src/lib.rt:120:53
 sub-t7 : tie.Need-sub-t7
 sub-t7 c = search needs
 
--- src/lib.rt:120:53
 cast-t8 : tie.Need-cast-t8
 cast-t8 c = search needs
 
--- src/lib.rt:120:36
 shr-t9 : tie.Need-shr-t9
 shr-t9 c = search needs
 
--- src/lib.rt:121:18
 shl-t12 : tie.Need-shl-t12
 shl-t12 c = search needs
 
--- src/lib.rt:119:9
 returns : tie.Need-returns
-returns c = ?
+returns c =
+    let s = c .before .before .before .before in
+    left-bits (s .args .x .high) (s .args .x .low) (s .args .k) (c .struct-known3 .given .1 .0 .fits) (c .before .before .before .if1 .taken)
 
--- src/lib.rt:126:29
 cast-t14 : tie.Need-cast-t14
 cast-t14 c = search needs
 
--- src/lib.rt:126:19
 shl-t15 : tie.Need-shl-t15
 shl-t15 c = search needs
 
--- src/lib.rt:125:9
 returns-2 : tie.Need-returns-2
-returns-2 c = ?
+returns-2 c =
+    let s = c .before .before .before in
+    left-word (s .args .x .high) (s .args .x .low) (s .args .k) (c .before .before .if1 .left)
 
--- src/lib.rt:115:1
 returns-3 : tie.Need-returns-3
-returns-3 c = ?
+returns-3 c = left-none (valueOf (c .before .before .args .x)) (c .before .before .args .k) (c .if2 .left)
 
 pub shl-spec : {M : Type 1} → statement M
 shl-spec =

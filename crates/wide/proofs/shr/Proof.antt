@@ -1,48 +1,45 @@
+-- `wide::shr` meets its contract, by fewer than 64 places, fewer than 128, and more (`Shifts`). Assumes nothing.
+use native.Mathlib.Omega.{arith}
 use borrow.Author.Needs.{needs}
+use Rattle.wide.specs.Meaning.{valueOf}
+use Rattle.wide.specs.Theorems.{value-lt}
+use Rattle.wide.proofs.Shifts.{right-bits, right-word, right-none}
 use Rattle.wide.proofs.shr.Statement.{statement}
 use Rattle.wide.proofs.shr.Tie as tie
-use Rattle.wide.proofs.shr.Reads as reads
-use Rattle.wide.proofs.shr.Lts as lts
 
--- src/lib.rt:139:19
 shr-t5 : tie.Need-shr-t5
 shr-t5 c = search needs
 
--- src/lib.rt:140:37
 sub-t7 : tie.Need-sub-t7
 sub-t7 c = search needs
 
--- src/lib.rt:140:37
 cast-t8 : tie.Need-cast-t8
 cast-t8 c = search needs
 
--- src/lib.rt:140:19
 shl-t9 : tie.Need-shl-t9
 shl-t9 c = search needs
 
--- src/lib.rt:140:49
 shr-t11 : tie.Need-shr-t11
 shr-t11 c = search needs
 
--- src/lib.rt:138:9
 returns : tie.Need-returns
-returns c = ?
+returns c =
+    let s = c .before .before .before .before in
+    right-bits (s .args .x .high) (s .args .x .low) (s .args .k) (c .struct-known3 .given .1 .0 .fits) (c .before .before .before .if1 .taken)
 
--- src/lib.rt:146:29
 cast-t14 : tie.Need-cast-t14
 cast-t14 c = search needs
 
--- src/lib.rt:146:18
 shr-t15 : tie.Need-shr-t15
 shr-t15 c = search needs
 
--- src/lib.rt:144:9
 returns-2 : tie.Need-returns-2
-returns-2 c = ?
+returns-2 c =
+    let s = c .before .before .before in
+    right-word (s .args .x .high) (s .args .x .low) (s .args .k) (c .before .before .if1 .left) (c .struct-known4 .given .1 .0 .fits)
 
--- src/lib.rt:134:1
 returns-3 : tie.Need-returns-3
-returns-3 c = ?
+returns-3 c = right-none (valueOf (c .before .before .args .x)) (c .before .before .args .k) (c .if2 .left) (value-lt {x = c .before .before .args .x} (record { high = omega arith; low = omega arith }))
 
 pub shr-spec : {M : Type 1} → statement M
 shr-spec =
