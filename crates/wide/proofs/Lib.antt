@@ -2,5 +2,6 @@
 mod Carry
 mod Columns
 mod LongDivision
+mod Normal
 mod Order
 mod Shifts

@@ -1,47 +1,71 @@
+-- `wide::divide::words` meets its contract: the shift loses nothing, and the two digits are the quotient (`Normal`). Assumes nothing.
+use Prim.Native.Nat.{ℕ, _^_, _<_}
+use native.Mathlib.Omega.{arith}
+use lib.Bits.{bitAnd, and-mask, mask-lt}
+use lib.Count.{leadingZeros}
 use borrow.Author.Needs.{needs}
+use Rattle.wide.proofs.Normal.{Normal, normal, Shifted, b-top, high-below, first-lt, rest-below, second-lt, both}
 use Rattle.wide.proofs.divide.words.Statement.{statement}
 use Rattle.wide.proofs.divide.words.Tie as tie
-use Rattle.wide.proofs.divide.words.Reads as reads
-use Rattle.wide.proofs.divide.words.Lts as lts
-use Rattle.wide.proofs.divide.digit.Reads as digit-reads
-use Rattle.wide.proofs.shl.Reads as shl-reads
-use Rattle.wide.proofs.shl_word.Reads as shl-word-reads
 
--- src/divide.rt:52:9
+norm : (c : tie.Start) → Normal (c .args .d) (leadingZeros 64 (c .args .d))
+norm c = normal (c .args .d) (omega arith) (c .fits .d .fits)
+
+shifted : (c : tie.After-shl) → Shifted (c .before .before .args .high) (c .before .before .args .low) (c .before .before .args .d) (leadingZeros 64 (c .before .before .args .d)) (c .before .shl-word .result) (c .shl .result)
+shifted c = record {
+  below = c .before .before .pre;
+  fits = c .before .before .fits .low .fits;
+  norm = norm (c .before .before);
+  by = c .before .shl-word .ensures;
+  value = c .shl .ensures;
+}
+
+-- the lower half of the shifted lower word, and that the word fits
+abbrev half : tie.After-digit → ℕ
+half c = bitAnd (c .before .before .shl .result .low) 0xffff_ffff
+
+fits : (c : tie.After-digit) → c .before .before .shl .result .low < 2 ^ 64
+fits c = c .before .struct-known .given .1 .0 .fits
+
+-- each digit is below 2 ^ 32
+first : (one : tie.After-digit) → one .digit .result .quotient < 2 ^ 32
+first one = first-lt (shifted (one .before .before)) (half one) (fits one) (and-mask (one .before .before .shl .result .low) 32) (one .digit .ensures)
+
+second : (two : tie.After-digit2) → two .digit2 .result .quotient < 2 ^ 32
+second two =
+    let one = two .before .before in
+    second-lt (shifted (one .before .before)) (half one) (fits one) (and-mask (one .before .before .shl .result .low) 32) (one .digit .ensures) (two .digit2 .ensures)
+
 shl-word-requires : tie.Need-shl-word-requires
-shl-word-requires c κs = ?
+shl-word-requires c κs = (norm c .short, norm c .fits)
 
--- src/divide.rt:53:9
 shl-requires : tie.Need-shl-requires
 shl-requires c κs = search needs
 
--- src/divide.rt:54:9
 digit-requires : tie.Need-digit-requires
-digit-requires c κs = ?
+digit-requires c κs = (b-top (shifted (c .before)), high-below (shifted (c .before)), omega arith)
 
--- src/divide.rt:55:9
 digit-requires-2 : tie.Need-digit-requires-2
-digit-requires-2 c κs = ?
+digit-requires-2 c κs =
+    let one = c .before in
+    (b-top (shifted (one .before .before)), rest-below (shifted (one .before .before)) (half one) (fits one) (and-mask (one .before .before .shl .result .low) 32) (one .digit .ensures), mask-lt (one .before .before .shl .result .low) 32)
 
--- src/divide.rt:57:19
 mul-t10 : tie.Need-mul-t10
-mul-t10 c = ?
+mul-t10 c = omega (arith, first (c .before .before .before))
 
--- src/divide.rt:57:19
 add-t11 : tie.Need-add-t11
-add-t11 c = ?
+add-t11 c = omega (arith, first (c .before .before .before .before), second (c .before .before))
 
--- src/divide.rt:58:30
 cast-t12 : tie.Need-cast-t12
-cast-t12 c = ?
+cast-t12 c = omega (arith, norm (c .before .before .before .before .before .before .before .before))
 
--- src/divide.rt:58:15
 shr-t13 : tie.Need-shr-t13
-shr-t13 c = ?
+shr-t13 c = norm (c .before .before .before .before .before .before .before .before .before) .short
 
--- src/divide.rt:47:1
 returns : tie.Need-returns
-returns c = ?
+returns c =
+    let one = c .before .before .before .before .before in
+    both (shifted (one .before .before)) (half one) (fits one) (and-mask (one .before .before .shl .result .low) 32) (one .digit .ensures) (c .before .before .before .digit2 .ensures)
 
 pub words-spec : {M : Type 1} → statement M
 words-spec =
