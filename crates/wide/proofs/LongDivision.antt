@@ -3,9 +3,12 @@
 use mathlib.Core.Path.{_≡_, sym, ap, _∙_}
 use Prim.Native.Nat.{ℕ, zero, _+_, _-_, _*_, _/_, _%_, _^_, _≤_, _<_}
 use native.Mathlib.Omega.{arith}
-use native.Mathlib.Nat.{mul-add, add-mul, mul-assoc, mul-le-mul, div-add-mod', mod-lt, div-lt-iff-lt-mul, mul-add-div-right, mul-add-mod-self-right, lt-of-mul-lt-mul-right, sub-add-cancel}
+use native.Mathlib.Nat.{zero-add, mul-add, add-mul, mul-assoc, mul-right-comm, mul-le-mul, div-add-mod', mod-lt, div-lt-iff-lt-mul, mul-add-div-right, mul-add-mod-self-right, lt-of-mul-lt-mul-right, sub-add-cancel}
 use lib.Arith.{digits-div, digits-mod}
+use Rattle.wide.specs.declared.Wide.{Wide}
 use Rattle.wide.specs.declared.divide.Step.{Step}
+use Rattle.wide.specs.Meaning.{valueOf}
+use Rattle.wide.specs.Promise.{Divided}
 use Rattle.wide.specs.Step.{stepOf}
 
 -- the one quotient and remainder
@@ -78,3 +81,25 @@ module _ {h l d d₀ : ℕ} (given : Digit h l d d₀) where
 
       pub two-less : (record { quotient = guess - 2; rest = d - (back - there - d) }) ≡ stepOf (h * 2 ^ 32 + l) d
       two-less = step-is (record { quotient = guess - 2; rest = d - (back - there - d) }) (h * 2 ^ 32 + l) d (omega (arith, whole, less-by 2 guess d guess-more, rest-le)) (omega (arith, rest-le))
+
+-- A number h * 2 ^ 64 + l by d: the quotient of h goes before, and what it leaves goes before l
+module _ (x : Wide) (d : ℕ) where
+  carry : valueOf x ≡ x .high / d * 2 ^ 64 * d + (x .high % d * 2 ^ 64 + x .low)
+  carry =
+      let spread : x .high * 2 ^ 64 ≡ x .high / d * 2 ^ 64 * d + x .high % d * 2 ^ 64 =
+      ap (λ (n : ℕ). n * 2 ^ 64) (sym (div-add-mod' (x .high) d)) ∙ add-mul (x .high / d * d) (x .high % d) (2 ^ 64) ∙ ap (λ (n : ℕ). n + x .high % d * 2 ^ 64) (mul-right-comm (x .high / d) d (2 ^ 64)) in
+      omega arith
+
+  pub two-words : {s : Step} → 0 < d → s ≡ stepOf (x .high % d * 2 ^ 64 + x .low) d → Divided x d (record { quotient = record { high = x .high / d; low = s .quotient }; rest = s .rest })
+  two-words p e = record {
+    quotient = ap (λ (t : Step). x .high / d * 2 ^ 64 + t .quotient) e ∙ sym (ap (λ (n : ℕ). n / d) carry ∙ mul-add-div-right {m = d} p (x .high / d * 2 ^ 64) (x .high % d * 2 ^ 64 + x .low));
+    rest = ap (λ (t : Step). t .rest) e ∙ sym (ap (λ (n : ℕ). n % d) carry ∙ mul-add-mod-self-right (x .high / d * 2 ^ 64) d (x .high % d * 2 ^ 64 + x .low));
+  }
+
+  -- where the quotient is one word
+  pub one-word : {s : Step} → s ≡ stepOf (valueOf x) d → Divided x d (record { quotient = record { high = 0; low = s .quotient }; rest = s .rest })
+  one-word {s} e = record { quotient = zero-add (s .quotient) ∙ ap (λ (t : Step). t .quotient) e; rest = ap (λ (t : Step). t .rest) e }
+
+  -- and where the number is
+  pub word : x .high ≡ 0 → Divided x d (record { quotient = record { high = 0; low = x .low / d }; rest = x .low % d })
+  word z = one-word (ap (λ (n : ℕ). stepOf n d) (omega arith))

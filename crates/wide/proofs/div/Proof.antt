@@ -1,45 +1,44 @@
+-- `wide::div` meets its contract: one word, a quotient of one word, or two steps of long division (`LongDivision`). Assumes nothing.
+use native.Mathlib.Nat.{mod-lt}
 use borrow.Author.Needs.{needs}
+use Rattle.wide.proofs.LongDivision.{word, one-word, two-words}
 use Rattle.wide.proofs.div.Statement.{statement}
 use Rattle.wide.proofs.div.Tie as tie
-use Rattle.wide.proofs.div.Reads as reads
-use Rattle.wide.proofs.div.Lts as lts
-use Rattle.wide.proofs.divide.words.Reads as words-reads
 
--- src/lib.rt:89:22
 div-t6 : tie.Need-div-t6
 div-t6 c = search needs
 
--- src/lib.rt:91:19
 rem-t8 : tie.Need-rem-t8
 rem-t8 c = search needs
 
--- src/lib.rt:86:9
 returns : tie.Need-returns
-returns c = ?
+returns c =
+    let s = c .before .before .before .before in
+    word (s .args .x) (s .args .d) (c .before .before .if1 .taken)
 
--- src/lib.rt:95:13
 words-requires : tie.Need-words-requires
 words-requires c κs = search needs
 
--- src/lib.rt:96:9
 returns-2 : tie.Need-returns-2
-returns-2 c = ?
+returns-2 c =
+    let s = c .before .before .before .before .before in
+    one-word (s .args .x) (s .args .d) (c .words .ensures)
 
--- src/lib.rt:104:30
 rem-words : tie.Need-rem-words
 rem-words c = search needs
 
--- src/lib.rt:104:9
 words-requires-2 : tie.Need-words-requires-2
-words-requires-2 c κs = ?
+words-requires-2 c κs =
+    let s = c .before .before .before .before .before in
+    mod-lt (s .args .x .high) (s .pre)
 
--- src/lib.rt:107:19
 div-t10 : tie.Need-div-t10
 div-t10 c = search needs
 
--- src/lib.rt:81:1
 returns-3 : tie.Need-returns-3
-returns-3 c = ?
+returns-3 c =
+    let s = c .before .before .before .before .before .before .before in
+    two-words (s .args .x) (s .args .d) (s .pre) (c .before .words2 .ensures)
 
 pub div-spec : {M : Type 1} → statement M
 div-spec =
