@@ -26,8 +26,8 @@ value-low {x} w = digits-mod (x .high) (w .low)
 -- so the value settles the words
 pub same-value : {x y : Wide} → Words x → Words y → valueOf x ≡ valueOf y → x ≡ y
 same-value {x} {y} v w e =
-    let h : x .high ≡ y .high = omega arith in
-    let l : x .low ≡ y .low = omega arith in
+    let h = sym (value-high v) ∙ ap (λ (n : ℕ). n / 2 ^ 64) e ∙ value-high w in
+    let l = sym (value-low v) ∙ ap (λ (n : ℕ). n % 2 ^ 64) e ∙ value-low w in
     λ i. record { high = h i; low = l i }
 
 -- and each number below 2 ^ 128 has its words

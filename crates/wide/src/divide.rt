@@ -2,10 +2,8 @@
 ghost use mathlib.Core.Path.{_≡_};
 ghost use Prim.Native.Nat.{_+_, _*_, _^_, _≤_, _<_};
 ghost use Rattle.wide.specs.Step.{stepOf};
+use super::HALF;
 use super::Wide;
-
-// The lower half of a word.
-const HALF: u64 = 0xffff_ffff;
 
 // A quotient of one word, and what the division leaves.
 pub struct Step {

@@ -3,6 +3,7 @@
 ghost use Prim.Native.Nat.{_+_, _*_, _^_, _≤_, _<_};
 ghost use Rattle.wide.specs.Meaning.{valueOf};
 ghost use Rattle.wide.specs.Promise.{Product, Sum, Difference, Less, Divided, ShiftedLeft, ShiftedRight, Scaled};
+
 mod divide;
 
 // A number of up to 128 bits.
@@ -17,8 +18,8 @@ pub struct Quotient {
     pub rest: u64,
 }
 
-// The lower half of a word.
-const HALF: u64 = 0xffff_ffff;
+// The bits of the lower half of a word.
+pub const HALF: u64 = 0xffff_ffff;
 
 // a * b. Each word is cut into halves, so that each of the four products fits a word. The upper word adds the columns with
 // their carries, as in multiplying by hand; the lower word lets them wrap. This shape compiles to one multiplication.
