@@ -28,9 +28,7 @@ rem-words : tie.Need-rem-words
 rem-words c = search needs
 
 words-requires-2 : tie.Need-words-requires-2
-words-requires-2 c κs =
-    let s = c .before .before .before .before .before in
-    mod-lt (s .args .x .high) (s .pre)
+words-requires-2 c κs = search (mod-lt, needs)
 
 div-t10 : tie.Need-div-t10
 div-t10 c = search needs
