@@ -1,10 +1,9 @@
 -- Multiplying two words by their halves: the four products of halves make the product, and the upper word of their sum, column by column with
 -- carries, is that of the product. The four products are unknowns and 2 ^ 32 a literal, so that what is left is linear. Assumes nothing.
-use mathlib.Core.Path.{_≡_, refl, sym, ap, _∙_}
+use mathlib.Core.Path.{_≡_, refl, sym, _∙_}
 use Prim.Native.Nat.{ℕ, _+_, _*_, _/_, _%_, _^_, _≤_, _<_}
 use native.Mathlib.Omega.{arith}
 use native.Mathlib.Nat.{add-assoc, add-comm, add-left-comm, mul-assoc, mul-comm, mul-left-comm, mul-add, add-mul, mul-le-mul}
-use lib.Pow.{split}
 
 -- the greatest product of two halves
 abbrev pub most : ℕ

@@ -1,18 +1,17 @@
 -- Two words by one word d. Shifting the number and d by the k that brings d's top bit to the top leaves the quotient, and two digits are the whole of it.
 -- Assumes nothing.
 use mathlib.Core.Path.{_≡_, sym, ap, _∙_, subst}
-use Prim.Native.Nat.{ℕ, zero, suc, _+_, _*_, _/_, _%_, _^_, _≤_, _<_}
+use Prim.Native.Nat.{ℕ, suc, _+_, _*_, _/_, _%_, _^_, _≤_, _<_}
 use native.Mathlib.Omega.{arith}
-use native.Mathlib.Nat.{le-trans, le-of-eq, lt-of-le-of-lt, lt-of-lt-of-le, lt-trans, le-add-right, add-mul, mul-assoc, mul-right-comm, mul-le-mul-right, mul-lt-mul-of-pos-right, lt-of-mul-lt-mul-right, mul-div-cancel, mul-add-div-right, div-lt-iff-lt-mul, div-add-mod', mod-lt, mod-eq-of-lt}
+use native.Mathlib.Nat.{le-trans, le-of-eq, lt-of-le-of-lt, lt-of-lt-of-le, lt-trans, le-add-right, add-mul, mul-assoc, mul-right-comm, mul-le-mul-right, mul-lt-mul-of-pos-right, lt-of-mul-lt-mul-right, mul-div-cancel, mul-add-div-right, div-lt-iff-lt-mul, mod-eq-of-lt}
 use lib.Arith.{digits-lt}
 use lib.Count.{leadingZeros, leading-top}
-use lib.Dec.{lit<}
 use lib.Pow.{pow-pos, pow-add, shl-lt}
 use Rattle.wide.specs.declared.Wide.{Wide}
 use Rattle.wide.specs.declared.divide.Step.{Step}
 use Rattle.wide.specs.Meaning.{valueOf}
 use Rattle.wide.specs.Step.{stepOf}
-use Rattle.wide.proofs.LongDivision.{step-is}
+use Rattle.wide.proofs.LongDivision.{step-is, told-whole, told-rest, told-quotient}
 
 -- shifted by k, d has its top bit set and still fits a word
 pub record Normal (d k : ℕ) : Type 0 where
@@ -35,19 +34,6 @@ normal d p f = go (leading-top 64 d p f)
           fits = subst (λ (n : ℕ). d * 2 ^ k < 2 ^ n) g (shl-lt (suc j) k (t .3));
         }
 
--- what a step tells: the quotient and the remainder by their law
-told-whole : {s : Step} (n d : ℕ) → s ≡ stepOf n d → s .quotient * d + s .rest ≡ n
-told-whole n d e = (λ i. e i .quotient * d + e i .rest) ∙ div-add-mod' n d
-
-told-rest : {s : Step} (n d : ℕ) → s ≡ stepOf n d → 0 < d → s .rest < d
-told-rest n d e p = lt-of-le-of-lt (le-of-eq (ap (λ (t : Step). t .rest) e)) (mod-lt n p)
-
--- a high part below d has a quotient of one digit
-told-quotient : {s : Step} {d : ℕ} (h l : ℕ) → s ≡ stepOf (h * 2 ^ 32 + l) d → h < d → l < 2 ^ 32 → s .quotient < 2 ^ 32
-told-quotient {s} {d} h l e f g =
-    lt-of-le-of-lt (le-of-eq (ap (λ (t : Step). t .quotient) e))
-    (div-lt-iff-lt-mul {k = d} {x = h * 2 ^ 32 + l} {y = 2 ^ 32} (omega arith) .1 (lt-of-lt-of-le (digits-lt {q = h} {m = d} {r = l} {c = 2 ^ 32} f g) (omega arith)))
-
 -- x is the number h * 2 ^ 64 + l shifted by k, and b is d shifted by k
 pub record Shifted (h l d k b : ℕ) (x : Wide) : Type 0 where
   pub below : h < d
@@ -55,6 +41,12 @@ pub record Shifted (h l d k b : ℕ) (x : Wide) : Type 0 where
   pub norm : Normal d k
   pub by : b ≡ d * 2 ^ k
   pub value : valueOf x ≡ (h * 2 ^ 64 + l) * 2 ^ k % 2 ^ 128
+
+-- s is the first digit, and m the lower half of the lower word
+pub record First (x : Wide) (b m : ℕ) (s : Step) : Type 0 where
+  pub fits : x .low < 2 ^ 64
+  pub half : m ≡ x .low % 2 ^ 32
+  pub is : s ≡ stepOf (x .high * 2 ^ 32 + x .low / 2 ^ 32) b
 
 module _ {h l d k b : ℕ} {x : Wide} (given : Shifted h l d k b x) where
   small : (h * 2 ^ 64 + l) * 2 ^ k < b * 2 ^ 64
@@ -75,13 +67,13 @@ module _ {h l d k b : ℕ} {x : Wide} (given : Shifted h l d k b x) where
   pub high-below : x .high < b
   high-below = lt-of-mul-lt-mul-right (2 ^ 64) (lt-of-le-of-lt (le-add-right (x .high * 2 ^ 64) (x .low)) (lt-of-le-of-lt (le-of-eq exact) small))
 
-  -- the two digits. m is the lower half of the lower word
-  module _ {s : Step} (m : ℕ) (fx : x .low < 2 ^ 64) (em : m ≡ x .low % 2 ^ 32) (es : s ≡ stepOf (x .high * 2 ^ 32 + x .low / 2 ^ 32) b) where
+  -- the two digits
+  module _ {m : ℕ} {s : Step} (one : First x b m s) where
     pub first-lt : s .quotient < 2 ^ 32
-    first-lt = told-quotient (x .high) (x .low / 2 ^ 32) es high-below (omega arith)
+    first-lt = told-quotient (x .high) (x .low / 2 ^ 32) (one .is) high-below (omega arith)
 
     pub rest-below : s .rest < b
-    rest-below = told-rest (x .high * 2 ^ 32 + x .low / 2 ^ 32) b es (omega (arith, b-top))
+    rest-below = told-rest (x .high * 2 ^ 32 + x .low / 2 ^ 32) b (one .is) (omega (arith, b-top))
 
     module _ {t : Step} (et : t ≡ stepOf (s .rest * 2 ^ 32 + m) b) where
       pub second-lt : t .quotient < 2 ^ 32
@@ -90,7 +82,7 @@ module _ {h l d k b : ℕ} {x : Wide} (given : Shifted h l d k b x) where
       digits : (s .quotient * 2 ^ 32 + t .quotient) * b + t .rest ≡ valueOf x
       digits =
           let spread : (s .quotient * 2 ^ 32 + t .quotient) * b ≡ s .quotient * b * 2 ^ 32 + t .quotient * b = add-mul (s .quotient * 2 ^ 32) (t .quotient) b ∙ ap (λ (n : ℕ). n + t .quotient * b) (mul-right-comm (s .quotient) (2 ^ 32) b) in
-          omega (arith, told-whole (x .high * 2 ^ 32 + x .low / 2 ^ 32) b es, told-whole (s .rest * 2 ^ 32 + m) b et)
+          omega (arith, told-whole (x .high * 2 ^ 32 + x .low / 2 ^ 32) b (one .is), told-whole (s .rest * 2 ^ 32 + m) b et)
 
       pub both : (record { quotient = s .quotient * 2 ^ 32 + t .quotient; rest = t .rest / 2 ^ k }) ≡ stepOf (h * 2 ^ 64 + l) d
       both =

@@ -1,12 +1,11 @@
 -- Shifts of the number h * 2 ^ 64 + l: by fewer than 64 places, where the bits that leave one word enter the other; by 64 to 127, where one word
 -- is left; and by more, where nothing is. Each word of the code is shown to be that word of the product or of the quotient. Assumes nothing.
 use mathlib.Core.Path.{_≡_, sym, ap, _∙_, subst}
-use Prim.Native.Nat.{ℕ, zero, _+_, _-_, _*_, _/_, _%_, _^_, _≤_, _<_}
+use Prim.Native.Nat.{ℕ, _+_, _-_, _*_, _/_, _%_, _^_, _≤_, _<_}
 use native.Mathlib.Omega.{arith}
 use native.Mathlib.Nat.{le-of-lt, lt-of-lt-of-le, add-mul, add-comm, zero-add, mul-assoc, mul-right-comm, sub-add-cancel, div-add-mod', mod-eq-of-lt, div-eq-of-lt, mul-div-cancel, mul-div-mul-right, mul-add-div-right, mul-add-mod-self-right, mul-mod-left}
 use lib.Pow.{pow-pos, pow-add, pow-mono, shr-lt, shr-shr, high, mod-pow-add}
 use lib.Bits.{bitOr, or-mod, or-shifted}
-use lib.Arith.{digits-lt}
 
 abbrev number : ℕ → ℕ → ℕ
 number h l = h * 2 ^ 64 + l

@@ -1,6 +1,6 @@
 -- Two words stand for the numbers below 2 ^ 128, and for each of them once. Assumes nothing.
-use mathlib.Core.Path.{_≡_, refl, sym, ap, _∙_}
-use Prim.Native.Nat.{ℕ, _+_, _*_, _/_, _%_, _^_, _≤_, _<_}
+use mathlib.Core.Path.{_≡_, sym, ap, _∙_}
+use Prim.Native.Nat.{ℕ, _+_, _*_, _/_, _%_, _^_, _<_}
 use native.Mathlib.Omega.{arith}
 use native.Mathlib.Nat.{lt-of-le-of-lt, lt-of-mul-lt-mul-right, mod-lt, div-add-mod'}
 use lib.Arith.{digits-lt, digits-div, digits-mod}
@@ -16,6 +16,10 @@ pub record Words (x : Wide) : Type 0 where
 pub value-lt : {x : Wide} → Words x → valueOf x < 2 ^ 128
 value-lt w = digits-lt {m = 2 ^ 64} (w .high) (w .low)
 
+-- and a number below 2 ^ 128 carries nothing out of the upper word
+pub high-lt : (h l : ℕ) → h * 2 ^ 64 + l < 2 ^ 128 → h < 2 ^ 64
+high-lt h l t = lt-of-mul-lt-mul-right (2 ^ 64) (lt-of-le-of-lt (omega arith) t)
+
 -- each word of the value
 pub value-high : {x : Wide} → Words x → valueOf x / 2 ^ 64 ≡ x .high
 value-high {x} w = digits-div (x .high) (w .low)
@@ -30,13 +34,9 @@ same-value {x} {y} v w e =
     let l = sym (value-low v) ∙ ap (λ (n : ℕ). n % 2 ^ 64) e ∙ value-low w in
     λ i. record { high = h i; low = l i }
 
--- and each number below 2 ^ 128 has its words
+-- and each number below 2 ^ 128 has its two words
 unfoldable pub wideOf : ℕ → Wide
 wideOf n = record { high = n / 2 ^ 64; low = n % 2 ^ 64 }
-
--- a sum of columns below 2 ^ 128 leaves no carry out of the upper word
-pub high-lt : (h l : ℕ) → h * 2 ^ 64 + l < 2 ^ 128 → h < 2 ^ 64
-high-lt h l t = lt-of-mul-lt-mul-right (2 ^ 64) (lt-of-le-of-lt (omega arith) t)
 
 pub wide-words : (n : ℕ) → n < 2 ^ 128 → Words (wideOf n)
 unfolding wideOf

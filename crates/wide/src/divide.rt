@@ -5,6 +5,9 @@ ghost use Rattle.wide.specs.Step.{stepOf};
 use super::HALF;
 use super::Wide;
 
+// A half word is a digit, and this is their base.
+const BASE: u64 = 0x1_0000_0000;
+
 // A quotient of one word, and what the division leaves.
 pub struct Step {
     pub quotient: u64,
@@ -12,14 +15,14 @@ pub struct Step {
 }
 
 // One digit of a quotient, for a divisor with its top bit set. The upper half of d alone gives a guess, which is the digit or
-// up to two above it. `back` is the guess times the half of d that the guess left out. Where more is to be taken back than is
-// there, the guess was too high, and each d that is given back makes it one less.
+// up to two above it. `there` is what the guess leaves, and `back` the guess times the half of d that it forgot, which is to be
+// taken from that. Where there is too little, the guess was too high, and each d that is given back makes it one less.
 pub fn digit(high: u64, low: u64, d: u64) -> Step
     requires { ⌜ (2 ^ 63 ≤ d) × (high < d) × (low < 2 ^ 32) ⌝ }
     ensures { λ r. ⌜ r ≡ stepOf (high * 2 ^ 32 + low) d ⌝ }
 {
     let guess = high / (d >> 32);
-    let there = (high % (d >> 32)) * 0x1_0000_0000 + low;
+    let there = (high % (d >> 32)) * BASE + low;
     let back = guess * (d & HALF);
     if back <= there {
         return Step {
@@ -52,7 +55,7 @@ pub fn words(high: u64, low: u64, d: u64) -> Step
     let first = digit(x.high, x.low >> 32, by);
     let second = digit(first.rest, x.low & HALF, by);
     Step {
-        quotient: first.quotient * 0x1_0000_0000 + second.quotient,
+        quotient: first.quotient * BASE + second.quotient,
         rest: second.rest >> k,
     }
 }

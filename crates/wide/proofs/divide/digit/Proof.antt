@@ -1,10 +1,10 @@
--- `wide::divide::digit` meets its contract: the guess is the digit, or one or two above it (`LongDivision`). Assumes nothing.
+-- `wide::divide::digit` meets its contract: the guess is the digit, or one or two above it (`Guess`). Assumes nothing.
 use Prim.Native.Nat.{_/_, _^_}
 use native.Mathlib.Omega.{arith}
 use native.Mathlib.Nat.{mod-lt}
 use lib.Bits.{bitAnd, and-mask}
 use borrow.Author.Needs.{needs}
-use Rattle.wide.proofs.LongDivision.{Digit, back-lt, right, guess-pos, one-less, guess-more, rest-le, two-less}
+use Rattle.wide.proofs.Guess.{Digit, back-lt, right, guess-pos, one-less, guess-more, rest-le, two-less}
 use Rattle.wide.proofs.divide.digit.Statement.{statement}
 use Rattle.wide.proofs.divide.digit.Tie as tie
 
