@@ -31,7 +31,11 @@ told-quotient {s} {d} h l e f g =
     lt-of-le-of-lt (le-of-eq (ap (λ (t : Step). t .quotient) e))
     (div-lt-iff-lt-mul {k = d} {x = h * 2 ^ 32 + l} {y = 2 ^ 32} (omega arith) .1 (lt-of-lt-of-le (digits-lt {q = h} {m = d} {r = l} {c = 2 ^ 32} f g) (omega arith)))
 
--- A number h * 2 ^ 64 + l by d: the quotient of h goes before, and what it leaves goes before l
+-- a number below d is its own rest
+pub below : {x d : ℕ} → x < d → (record { quotient = 0; rest = x }) ≡ stepOf x d
+below {x} {d} h = step-is (record { quotient = 0; rest = x }) x d (omega arith) h
+
+-- x by d: the quotient of the upper word goes before, and what it leaves goes before the lower word
 module _ (x : Wide) (d : ℕ) where
   carry : valueOf x ≡ x .high / d * 2 ^ 64 * d + (x .high % d * 2 ^ 64 + x .low)
   carry =
@@ -39,16 +43,16 @@ module _ (x : Wide) (d : ℕ) where
       ap (λ (n : ℕ). n * 2 ^ 64) (sym (div-add-mod' (x .high) d)) ∙ add-mul (x .high / d * d) (x .high % d) (2 ^ 64) ∙ ap (λ (n : ℕ). n + x .high % d * 2 ^ 64) (mul-right-comm (x .high / d) d (2 ^ 64)) in
       omega arith
 
-  pub two-words : {s : Step} → 0 < d → s ≡ stepOf (x .high % d * 2 ^ 64 + x .low) d → Divided x d (record { quotient = record { high = x .high / d; low = s .quotient }; rest = s .rest })
-  two-words p e = record {
-    quotient = ap (λ (t : Step). x .high / d * 2 ^ 64 + t .quotient) e ∙ sym (ap (λ (n : ℕ). n / d) carry ∙ mul-add-div-right {m = d} p (x .high / d * 2 ^ 64) (x .high % d * 2 ^ 64 + x .low));
-    rest = ap (λ (t : Step). t .rest) e ∙ sym (ap (λ (n : ℕ). n % d) carry ∙ mul-add-mod-self-right (x .high / d * 2 ^ 64) d (x .high % d * 2 ^ 64 + x .low));
-  }
+  pub two-steps : {t s : Step} → 0 < d → t ≡ stepOf (x .high) d → s ≡ stepOf (t .rest * 2 ^ 64 + x .low) d → Divided x d (record { quotient = record { high = t .quotient; low = s .quotient }; rest = s .rest })
+  two-steps p f e =
+      let g = e ∙ ap (λ (t : Step). stepOf (t .rest * 2 ^ 64 + x .low) d) f in
+      record {
+        quotient = (λ i. f i .quotient * 2 ^ 64 + g i .quotient) ∙ sym (ap (λ (n : ℕ). n / d) carry ∙ mul-add-div-right {m = d} p (x .high / d * 2 ^ 64) (x .high % d * 2 ^ 64 + x .low));
+        rest = ap (λ (t : Step). t .rest) g ∙ sym (ap (λ (n : ℕ). n % d) carry ∙ mul-add-mod-self-right (x .high / d * 2 ^ 64) d (x .high % d * 2 ^ 64 + x .low));
+      }
 
-  -- where the quotient is one word
-  pub one-word : {s : Step} → s ≡ stepOf (valueOf x) d → Divided x d (record { quotient = record { high = 0; low = s .quotient }; rest = s .rest })
-  one-word {s} e = record { quotient = zero-add (s .quotient) ∙ ap (λ (t : Step). t .quotient) e; rest = ap (λ (t : Step). t .rest) e }
-
-  -- and where the number is
-  pub word : x .high ≡ 0 → Divided x d (record { quotient = record { high = 0; low = x .low / d }; rest = x .low % d })
-  word z = one-word (ap (λ (n : ℕ). stepOf n d) (omega arith))
+  -- where the upper word is 0, the lower one is the number
+  pub one-step : x .high ≡ 0 → Divided x d (record { quotient = record { high = 0; low = x .low / d }; rest = x .low % d })
+  one-step z =
+      let e : x .low ≡ valueOf x = omega arith in
+      record { quotient = zero-add (x .low / d) ∙ ap (λ (n : ℕ). n / d) e; rest = ap (λ (n : ℕ). n % d) e }

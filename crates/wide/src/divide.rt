@@ -14,6 +14,23 @@ pub struct Step {
     pub rest: u64,
 }
 
+// One word by d, with no division where the quotient is 0.
+pub fn word(x: u64, d: u64) -> Step
+    requires { ⌜ 0 < d ⌝ }
+    ensures { λ r. ⌜ r ≡ stepOf x d ⌝ }
+{
+    if x < d {
+        return Step {
+            quotient: 0,
+            rest: x,
+        };
+    }
+    Step {
+        quotient: x / d,
+        rest: x % d,
+    }
+}
+
 // One digit of a quotient, for a divisor with its top bit set. The upper half of d alone gives a guess, which is the digit or
 // up to two above it. `there` is what the guess leaves, and `back` the guess times the half of d that it forgot, which is to be
 // taken from that. Where there is too little, the guess was too high, and each d that is given back makes it one less.

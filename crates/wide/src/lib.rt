@@ -19,7 +19,7 @@ pub struct Quotient {
 }
 
 // The bits of the lower half of a word.
-pub const HALF: u64 = 0xffff_ffff;
+const HALF: u64 = 0xffff_ffff;
 
 // a * b. Each word is cut into halves, so that each of the four products fits a word. The upper word adds the columns with
 // their carries, as in multiplying by hand; the lower word lets them wrap. This shape compiles to one multiplication.
@@ -77,8 +77,8 @@ pub fn less(x: Wide, y: Wide) -> bool
     x.high < y.high
 }
 
-// x / d and x % d. One machine division where x is one word; else the upper word first, and what it leaves goes before
-// the lower word into the second step. An upper word below d has the quotient 0, and needs no first step.
+// x / d and x % d. One machine division where x is one word; else the upper word first, and what that leaves goes before the
+// lower word into the second step.
 pub fn div(x: Wide, d: u64) -> Quotient
     requires { ⌜ 0 < d ⌝ }
     ensures { λ r. ⌜ Divided x d r ⌝ }
@@ -92,20 +92,11 @@ pub fn div(x: Wide, d: u64) -> Quotient
             rest: x.low % d,
         };
     }
-    if x.high < d {
-        let step = divide::words(x.high, x.low, d);
-        return Quotient {
-            quotient: Wide {
-                high: 0,
-                low: step.quotient,
-            },
-            rest: step.rest,
-        };
-    }
-    let step = divide::words(x.high % d, x.low, d);
+    let top = divide::word(x.high, d);
+    let step = divide::words(top.rest, x.low, d);
     Quotient {
         quotient: Wide {
-            high: x.high / d,
+            high: top.quotient,
             low: step.quotient,
         },
         rest: step.rest,
