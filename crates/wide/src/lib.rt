@@ -1,5 +1,5 @@
-// Numbers of up to 128 bits as two words of 64, where S has `u128`: the product, quotient and shifts that reading,
-// arithmetic and conversion need. Inner functions: the crates above meet what they require.
+// Numbers of up to 128 bits as two words of 64: what S does with `u128` and src/int256.rs, at the width that reading, arithmetic
+// and conversion need. Inner functions: the crates above meet what they require.
 ghost use Prim.Native.Nat.{_+_, _*_, _^_, _≤_, _<_};
 ghost use Rattle.wide.specs.Meaning.{valueOf};
 ghost use Rattle.wide.specs.Promise.{Product, Sum, Difference, Less, Divided, ShiftedLeft, ShiftedRight, Scaled};
