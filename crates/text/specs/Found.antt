@@ -8,6 +8,7 @@ use native.Mathlib.Numerals.{add-one}
 use lib.Dec.{eqb}
 use lib.ListN.{length, take, drop, getD, drop-of-length-le}
 use lib.Seq.{drop-cons}
+use borrow.Author.Tests.{eq-eqb, ne-eqb}
 use Rattle.digits.specs.Meaning.{digitsOf}
 use Rattle.text.specs.Meaning.{digitOf, isDigit, Written, blank}
 use Rattle.text.specs.Run.{valuesOf, inRun, runMore, runLen, withDigits}
@@ -48,6 +49,19 @@ writtenOf t p =
 unfoldable pub foundOf : List ℕ → Found → Reading
 foundOf t (Number p) = number (writtenOf t p)
 foundOf t (Refused n) = unread n
+
+-- the ends of a text, before the mark and after it
+unfoldable pub noDigits : Parsed → Bool
+noDigits p = eqb (p .whole .digits) 0 && eqb (p .frac .digits) 0
+
+unfoldable pub unmarkedOf : Parsed → Found
+unmarkedOf p = cond (noDigits p) (Refused 11) (Number p)
+
+abbrev pub withExponent : Parsed → ℕ → Parsed
+withExponent p e = record { neg = p .neg; whole = p .whole; frac = p .frac; base = p .base; down = p .down; exp = e }
+
+unfoldable pub expEndOf : Parsed → Bool → ℕ → Found
+expEndOf p seen e = cond (noDigits p) (Refused 11) (cond seen (Number (withExponent p e)) (Refused 17))
 
 -- a run's count is that of its digits
 abbrev pub Counted : List ℕ → Run → Type 0
@@ -130,3 +144,25 @@ module _ (t : List ℕ) (from radix : ℕ) (skip : Bool) where
 
   pub run-past : length t ≤ from → _≡_ {A = Run} (record { from = from; to = from; digits = 0 }) (runOf t from radix skip)
   run-past h = empty-run (len-past h)
+
+-- ---- the ends as the code finds them, g whether there are no digits
+module _ (p : Parsed) {g : Bool} (t : g ≡ noDigits p) where
+  pub unmarked-none : g ≡ true → Refused 11 ≡ unmarkedOf p
+  unfolding unmarkedOf
+  unmarked-none h = rw (sym t ∙ h)
+
+  pub unmarked-some : g ≡ false → Number p ≡ unmarkedOf p
+  unfolding unmarkedOf
+  unmarked-some h = rw (sym t ∙ h)
+
+  pub exp-end-none : (seen : Bool) (e : ℕ) → g ≡ true → Refused 11 ≡ expEndOf p seen e
+  unfolding expEndOf
+  exp-end-none seen e h = rw (sym t ∙ h)
+
+  pub exp-end-some : {seen : Bool} (e : ℕ) → g ≡ false → seen ≡ true → Number (withExponent p e) ≡ expEndOf p seen e
+  unfolding expEndOf
+  exp-end-some e h s = rw (sym t ∙ h, s)
+
+  pub exp-end-bare : {seen : Bool} (e : ℕ) → g ≡ false → seen ≡ false → Refused 17 ≡ expEndOf p seen e
+  unfolding expEndOf
+  exp-end-bare e h s = rw (sym t ∙ h, s)

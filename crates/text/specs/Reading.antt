@@ -8,12 +8,12 @@ use Prim.Native.Nat.{ℕ, zero, suc, _+_, _-_, _*_, _≤_, _<_}
 use native.Mathlib.Omega.{arith}
 use lib.Dec.{leb, ltb, eqb}
 use lib.ListN.{length, take, drop}
-use borrow.Author.Tests.{eq-eqb, ne-eqb, eqb-true, eqb-false, ltb-true}
+use borrow.Author.Tests.{eq-eqb, ne-eqb, eqb-true, eqb-false, ltb-true, le-leb, lt-leb, leb-true}
 use Rattle.text.specs.Meaning.{digitOf, isDigit, isSign, isMark, baseOf, isRadix, Written, Part, whole, fraction, exponent, Seen, nothing, sign, digit, Scan, at, refuse, blank, withBase, withExp, Sep, Skip, Error, invalid, onSign, onPoint, onUnderscore, onMark, onOther, onExpDigit, expLimit, step, scan, ended, finish}
 use Rattle.text.specs.Class.{classOf, Plain, ten-plain}
 use Rattle.text.specs.Run.{sepOf, inRun, runMore, runLen, partOf, seenAfter}
 use Rattle.text.specs.declared.scan.ExpStep.{ExpStep}
-use Rattle.text.specs.declared.scan.ExpStep.the-variants.{To, Same, Refuse}
+use Rattle.text.specs.declared.scan.ExpStep.the-variants.{On, Refuse}
 use Rattle.text.specs.declared.byte.Class.{Class}
 use Rattle.text.specs.declared.byte.Class.the-variants.{Sign, Point, Underscore, Mark, Other}
 
@@ -211,23 +211,23 @@ unfolding reading scan step onSign
 read-exponent-sign k radix b t x e = rw e
 
 -- ---- the exponent, a byte at a time: a digit takes it further, a `_` that is skipped leaves it, anything else is refused
-unfoldable pub expUnder : Bool → Bool → ExpStep
-expUnder true true = Same
-expUnder true false = Refuse 14
-expUnder false seen = Refuse 16
+unfoldable pub expUnder : Bool → Bool → ℕ → ExpStep
+expUnder true true e = On e
+expUnder true false e = Refuse 14
+expUnder false seen e = Refuse 16
 
 unfoldable pub expDigit : Bool → ℕ → ℕ → ExpStep
-expDigit down e d = cond (leb (e * 10 + d) (expLimit down)) (To (e * 10 + d)) (Refuse 19)
+expDigit down e d = cond (leb (e * 10 + d) (expLimit down)) (On (e * 10 + d)) (Refuse 19)
 
-unfoldable pub expOther : Class → Bool → Bool → ExpStep
-expOther Sign skip seen = Refuse 12
-expOther Point skip seen = Refuse 16
-expOther Underscore skip seen = expUnder skip seen
-expOther (Mark base) skip seen = Refuse 18
-expOther Other skip seen = Refuse 16
+unfoldable pub expOther : Class → Bool → Bool → ℕ → ExpStep
+expOther Sign skip seen e = Refuse 12
+expOther Point skip seen e = Refuse 16
+expOther Underscore skip seen e = expUnder skip seen e
+expOther (Mark base) skip seen e = Refuse 18
+expOther Other skip seen e = Refuse 16
 
 unfoldable pub expStepOf : Bool → ℕ → Bool → Bool → ℕ → ℕ → ExpStep
-expStepOf skip radix seen down e b = cond (isDigit 10 b) (expDigit down e (digitOf b)) (expOther (classOf radix b) skip seen)
+expStepOf skip radix seen down e b = cond (isDigit 10 b) (expDigit down e (digitOf b)) (expOther (classOf radix b) skip seen e)
 
 -- where the exponent's scan stands once its sign was read
 abbrev pub expSeen : Bool → Seen
@@ -237,27 +237,26 @@ expSeen false = sign
 abbrev pub expAt : Bool → Written → ℕ → Scan
 expAt seen x e = at exponent (expSeen seen) (withExp x (x .down) e)
 
-unfoldable pub expScan : ExpStep → Written → ℕ → Scan
-expScan (To e) x old = expAt true x e
-expScan Same x old = expAt true x old
-expScan (Refuse n) x old = refuse n
+unfoldable pub expScan : ExpStep → Written → Scan
+expScan (On e) x = expAt true x e
+expScan (Refuse n) x = refuse n
 
 module _ (skip : Bool) (radix b : ℕ) (x : Written) (e : ℕ) where
-  exp-digit-step : (seen : Bool) → isDigit 10 b ≡ true → step (sepOf skip) radix b exponent (expSeen seen) (withExp x (x .down) e) ≡ expScan (expDigit (x .down) e (digitOf b)) x e
+  exp-digit-step : (seen : Bool) → isDigit 10 b ≡ true → step (sepOf skip) radix b exponent (expSeen seen) (withExp x (x .down) e) ≡ expScan (expDigit (x .down) e (digitOf b)) x
   unfolding step onOther onExpDigit expDigit expScan
   exp-digit-step seen h =
       let n = ten-plain radix b (ltb-true (digitOf b) 10 h) in
       simp (n .no-sign, n .no-point, n .no-under, n .no-mark, h) (go (leb (e * 10 + digitOf b) (expLimit (x .down))))
     where
-      go : (t : Bool) → cond t (at exponent digit (withExp x (x .down) (e * 10 + digitOf b))) (refuse 19) ≡ expScan (cond t (To (e * 10 + digitOf b)) (Refuse 19)) x e
+      go : (t : Bool) → cond t (at exponent digit (withExp x (x .down) (e * 10 + digitOf b))) (refuse 19) ≡ expScan (cond t (On (e * 10 + digitOf b)) (Refuse 19)) x
       go true = refl
       go false = refl
 
-  exp-other-step : (seen : Bool) → isDigit 10 b ≡ false → onClass (classOf radix b) (sepOf skip) radix b exponent (expSeen seen) (withExp x (x .down) e) ≡ expScan (expOther (classOf radix b) skip seen) x e
+  exp-other-step : (seen : Bool) → isDigit 10 b ≡ false → onClass (classOf radix b) (sepOf skip) radix b exponent (expSeen seen) (withExp x (x .down) e) ≡ expScan (expOther (classOf radix b) skip seen e) x
   unfolding onClass onSign onPoint onUnderscore onMark onOther expOther expUnder expScan
   exp-other-step seen h = go (classOf radix b) skip seen
     where
-      go : (c : Class) (skip seen : Bool) → onClass c (sepOf skip) radix b exponent (expSeen seen) (withExp x (x .down) e) ≡ expScan (expOther c skip seen) x e
+      go : (c : Class) (skip seen : Bool) → onClass c (sepOf skip) radix b exponent (expSeen seen) (withExp x (x .down) e) ≡ expScan (expOther c skip seen e) x
       go Sign skip true = refl
       go Sign skip false = refl
       go Point skip seen = refl
@@ -268,11 +267,11 @@ module _ (skip : Bool) (radix b : ℕ) (x : Written) (e : ℕ) where
       go Other skip seen = rw h
 
   -- one byte of the exponent
-  pub read-exp : (seen : Bool) (t : List ℕ) → reading (sepOf skip) radix (b ∷ t) (expAt seen x e) ≡ reading (sepOf skip) radix t (expScan (expStepOf skip radix seen (x .down) e b) x e)
+  pub read-exp : (seen : Bool) (t : List ℕ) → reading (sepOf skip) radix (b ∷ t) (expAt seen x e) ≡ reading (sepOf skip) radix t (expScan (expStepOf skip radix seen (x .down) e b) x)
   unfolding expStepOf
   read-exp seen t = go (isDigit 10 b) refl
     where
-      go : (d : Bool) → isDigit 10 b ≡ d → reading (sepOf skip) radix (b ∷ t) (expAt seen x e) ≡ reading (sepOf skip) radix t (expScan (cond d (expDigit (x .down) e (digitOf b)) (expOther (classOf radix b) skip seen)) x e)
+      go : (d : Bool) → isDigit 10 b ≡ d → reading (sepOf skip) radix (b ∷ t) (expAt seen x e) ≡ reading (sepOf skip) radix t (expScan (cond d (expDigit (x .down) e (digitOf b)) (expOther (classOf radix b) skip seen e)) x)
       go true h = read-step (sepOf skip) radix b t exponent (expSeen seen) (withExp x (x .down) e) (exp-digit-step seen h)
       go false h = read-next (sepOf skip) radix b t exponent (expSeen seen) (withExp x (x .down) e) ∙ ap (reading (sepOf skip) radix t) (exp-other-step seen h)
 
@@ -290,3 +289,68 @@ read-exp-end k radix seen x e = go (eqb (length (x .digits)) 0) seen
     go true seen = refl
     go false true = refl
     go false false = refl
+
+-- ---- the steps of the exponent as the code finds them
+pub under-refused : {skip : Bool} (seen : Bool) (e : ℕ) → skip ≡ false → Refuse 16 ≡ expUnder skip seen e
+unfolding expUnder
+under-refused seen e s = rw s
+
+module _ {skip seen : Bool} (e : ℕ) where
+  pub under-on : skip ≡ true → seen ≡ true → On e ≡ expUnder skip seen e
+  unfolding expUnder
+  under-on s t = rw (s, t)
+
+  pub under-first : skip ≡ true → seen ≡ false → Refuse 14 ≡ expUnder skip seen e
+  unfolding expUnder
+  under-first s t = rw (s, t)
+
+module _ (down : Bool) (e d : ℕ) {top : ℕ} (q : top ≡ expLimit down) where
+  pub digit-on : e * 10 + d ≤ top → On (e * 10 + d) ≡ expDigit down e d
+  unfolding expDigit
+  digit-on h = rw (le-leb (e * 10 + d) (expLimit down) (omega (arith, q)))
+
+  pub digit-over : top < e * 10 + d → Refuse 19 ≡ expDigit down e d
+  unfolding expDigit
+  digit-over h = rw (lt-leb (e * 10 + d) (expLimit down) (omega (arith, q)))
+
+-- the class that a match found
+pub exp-by-class : (skip seen : Bool) (e : ℕ) {c j : Class} {r : ExpStep} → c ≡ j → r ≡ expOther j skip seen e → r ≡ expOther c skip seen e
+exp-by-class skip seen e q h = h ∙ ap (λ (k : Class). expOther k skip seen e) (sym q)
+
+module _ (skip : Bool) (radix : ℕ) (seen down : Bool) (e b : ℕ) {g : Bool} (t : g ≡ isDigit 10 b) {r : ExpStep} where
+  pub exp-step-digit : {d : ℕ} → g ≡ true → d ≡ digitOf b → r ≡ expDigit down e d → r ≡ expStepOf skip radix seen down e b
+  unfolding expStepOf
+  exp-step-digit h q z = rw (sym t ∙ h) (z ∙ ap (expDigit down e) q)
+
+  pub exp-step-other : {c : Class} → g ≡ false → c ≡ classOf radix b → r ≡ expOther c skip seen e → r ≡ expStepOf skip radix seen down e b
+  unfolding expStepOf
+  exp-step-other h q z = rw (sym t ∙ h) (z ∙ ap (λ (k : Class). expOther k skip seen e) q)
+
+-- an exponent stays within a signed word of 32 bits
+pub exp-bound : (skip : Bool) (radix : ℕ) (seen down : Bool) (e b : ℕ) {v : ℕ} → e ≤ 2147483648 → On v ≡ expStepOf skip radix seen down e b → v ≤ 2147483648
+unfolding expStepOf expDigit expOther expUnder
+exp-bound skip radix seen down e b {v} h q = go (isDigit 10 b) q
+  where
+    limit : (down : Bool) → expLimit down ≤ 2147483648
+    limit true = omega arith
+    limit false = omega arith
+
+    by-digit : (t : Bool) → leb (e * 10 + digitOf b) (expLimit down) ≡ t → On v ≡ cond t (On (e * 10 + digitOf b)) (Refuse 19) → v ≤ 2147483648
+    by-digit true g q = let z : v ≡ e * 10 + digitOf b = cc in omega (arith, leb-true (e * 10 + digitOf b) (expLimit down) g, limit down)
+    by-digit false g q = let z : _≡_ {A = ℕ} 0 1 = cc in absurd (omega arith)
+
+    by-under : (skip seen : Bool) → On v ≡ expUnder skip seen e → v ≤ 2147483648
+    by-under true true q = let z : v ≡ e = cc in omega arith
+    by-under true false q = let z : _≡_ {A = ℕ} 0 1 = cc in absurd (omega arith)
+    by-under false seen q = let z : _≡_ {A = ℕ} 0 1 = cc in absurd (omega arith)
+
+    by-class : (c : Class) → On v ≡ expOther c skip seen e → v ≤ 2147483648
+    by-class Sign q = let z : _≡_ {A = ℕ} 0 1 = cc in absurd (omega arith)
+    by-class Point q = let z : _≡_ {A = ℕ} 0 1 = cc in absurd (omega arith)
+    by-class Underscore q = by-under skip seen q
+    by-class (Mark base) q = let z : _≡_ {A = ℕ} 0 1 = cc in absurd (omega arith)
+    by-class Other q = let z : _≡_ {A = ℕ} 0 1 = cc in absurd (omega arith)
+
+    go : (d : Bool) → On v ≡ cond d (expDigit down e (digitOf b)) (expOther (classOf radix b) skip seen e) → v ≤ 2147483648
+    go true q = by-digit (leb (e * 10 + digitOf b) (expLimit down)) refl q
+    go false q = by-class (classOf radix b) q

@@ -5,15 +5,33 @@ ghost use Prim.Native.Nat.{_+_, _*_, _<_, _≤_};
 ghost use lib.ListN.{length, drop};
 ghost use Rattle.text.specs.Meaning.{isRadix, at, whole as wholePart, fraction as fractionPart, exponent as exponentPart, nothing, sign as signSeen, blank, expLimit};
 ghost use Rattle.text.specs.Run.{inRun, runMore, runLen, sepOf};
-ghost use Rattle.text.specs.Found.{runOf, Finds};
+ghost use Rattle.text.specs.Found.{runOf, noDigits, unmarkedOf, expEndOf, Finds};
 ghost use Rattle.text.specs.Reading.{reading, afterRun, underNumber, expUnder, expDigit, expOther, expStepOf};
 use crate::byte;
 use crate::byte::Class;
 
-// A step of the exponent: to a larger one, the same again, or a refusal.
+// S's kinds of parse error, as document 01 numbers them.
+const NO_DIGITS: u32 = 11;
+
+const MISPLACED_SIGN: u32 = 12;
+
+const INVALID_DIGIT: u32 = 13;
+
+const MISPLACED_UNDERSCORE: u32 = 14;
+
+const TOO_MANY_POINTS: u32 = 15;
+
+const EXP_INVALID_DIGIT: u32 = 16;
+
+const EXP_NO_DIGITS: u32 = 17;
+
+const TOO_MANY_EXP: u32 = 18;
+
+const EXP_OVERFLOW: u32 = 19;
+
+// A step of the exponent: what it is after the byte, or a refusal.
 pub enum ExpStep {
-    To(u64),
-    Same,
+    On(u64),
     Refuse(u32),
 }
 
@@ -88,4 +106,94 @@ pub fn run_at(text: &[u8], from: usize, radix: u32, skip: bool) -> Run
         to: from,
         digits: 0,
     }
+}
+
+fn no_digits(p: Parsed) -> bool
+    ensures { λ r. ⌜ r ≡ noDigits p ⌝ }
+{
+    if p.whole.digits == 0 {
+        return p.frac.digits == 0;
+    }
+    false
+}
+
+// Before the mark: a text with no digits is none.
+fn unmarked(p: Parsed) -> Found
+    ensures { λ r. ⌜ r ≡ unmarkedOf p ⌝ }
+{
+    if no_digits(p) {
+        return Found::Refused(NO_DIGITS);
+    }
+    Found::Number(p)
+}
+
+// A `_` in the exponent.
+fn exp_under(skip: bool, seen: bool, e: u64) -> ExpStep
+    ensures { λ r. ⌜ r ≡ expUnder skip seen e ⌝ }
+{
+    if skip {
+        if seen {
+            return ExpStep::On(e);
+        }
+        return ExpStep::Refuse(MISPLACED_UNDERSCORE);
+    }
+    ExpStep::Refuse(EXP_INVALID_DIGIT)
+}
+
+// The largest magnitude of an exponent, an i32's.
+fn exp_limit(down: bool) -> u64
+    ensures { λ r. ⌜ r ≡ expLimit down ⌝ }
+{
+    if down {
+        return 2147483648;
+    }
+    2147483647
+}
+
+fn exp_digit(down: bool, e: u64, d: u32) -> ExpStep
+    requires { ⌜ e ≤ 2147483648 ⌝ }
+    ensures { λ r. ⌜ r ≡ expDigit down e d ⌝ }
+{
+    let next = e * 10 + d as u64;
+    if next <= exp_limit(down) {
+        return ExpStep::On(next);
+    }
+    ExpStep::Refuse(EXP_OVERFLOW)
+}
+
+fn exp_other(class: Class, skip: bool, seen: bool, e: u64) -> ExpStep
+    ensures { λ r. ⌜ r ≡ expOther class skip seen e ⌝ }
+{
+    match class {
+        Class::Sign => ExpStep::Refuse(MISPLACED_SIGN),
+        Class::Point => ExpStep::Refuse(EXP_INVALID_DIGIT),
+        Class::Underscore => exp_under(skip, seen, e),
+        Class::Mark(_) => ExpStep::Refuse(TOO_MANY_EXP),
+        Class::Other => ExpStep::Refuse(EXP_INVALID_DIGIT),
+    }
+}
+
+// One byte of the exponent, whose digits are decimal in every radix.
+fn exp_step(b: u8, radix: u32, skip: bool, seen: bool, down: bool, e: u64) -> ExpStep
+    requires { ⌜ e ≤ 2147483648 ⌝ }
+    ensures { λ r. ⌜ r ≡ expStepOf skip radix seen down e b ⌝ }
+{
+    if byte::is_digit(b, 10) {
+        return exp_digit(down, e, byte::digit_of(b));
+    }
+    exp_other(byte::class_of(b, radix), skip, seen, e)
+}
+
+// The end of the exponent: a text with no digits is none, nor is a mark with no digit after it.
+fn exp_end(mut p: Parsed, seen: bool, e: u64) -> Found
+    ensures { λ r. ⌜ r ≡ expEndOf p seen e ⌝ }
+{
+    if no_digits(p) {
+        return Found::Refused(NO_DIGITS);
+    }
+    if seen {
+        p.exp = e;
+        return Found::Number(p);
+    }
+    Found::Refused(EXP_NO_DIGITS)
 }
