@@ -354,3 +354,11 @@ exp-bound skip radix seen down e b {v} h q = go (isDigit 10 b) q
     go : (d : Bool) → On v ≡ cond d (expDigit down e (digitOf b)) (expOther (classOf radix b) skip seen e) → v ≤ 2147483648
     go true q = by-digit (leb (e * 10 + digitOf b) (expLimit down)) refl q
     go false q = by-class (classOf radix b) q
+
+pub under-skipped : {skip : Bool} → skip ≡ true → 14 ≡ underNumber skip
+unfolding underNumber
+under-skipped s = rw s
+
+pub under-plain : {skip : Bool} → skip ≡ false → 13 ≡ underNumber skip
+unfolding underNumber
+under-plain s = rw s

@@ -5,7 +5,7 @@ ghost use Prim.Native.Nat.{_+_, _*_, _<_, _≤_};
 ghost use lib.ListN.{length, drop};
 ghost use Rattle.text.specs.Meaning.{isRadix, at, whole as wholePart, fraction as fractionPart, exponent as exponentPart, nothing, sign as signSeen, blank, expLimit};
 ghost use Rattle.text.specs.Run.{inRun, runMore, runLen, sepOf};
-ghost use Rattle.text.specs.Found.{runOf, noDigits, unmarkedOf, expEndOf, Finds};
+ghost use Rattle.text.specs.Found.{runOf, noDigits, unmarkedOf, expEndOf, writtenOf, withDown, withMarkBase, Ready, Finds};
 ghost use Rattle.text.specs.Reading.{reading, afterRun, underNumber, expUnder, expDigit, expOther, expStepOf};
 use crate::byte;
 use crate::byte::Class;
@@ -196,4 +196,84 @@ fn exp_end(mut p: Parsed, seen: bool, e: u64) -> Found
         return Found::Number(p);
     }
     Found::Refused(EXP_NO_DIGITS)
+}
+
+// The exponent's digits, once its sign was read.
+fn exp_run(text: &[u8], from: usize, radix: u32, skip: bool, p: Parsed) -> Found
+    requires { ⌜ (from ≤ length (now text)) × Ready (now text) p ⌝ }
+    ensures { λ r. ⌜ Finds (now (text .entry)) r (reading (sepOf skip) radix (drop from (now (text .entry))) (at exponentPart signSeen (writtenOf (now (text .entry)) p))) ⌝ }
+{
+    let down = p.down;
+    let mut e = p.exp;
+    let mut seen = false;
+    let mut i = from;
+    while i < text.len() {
+        match exp_step(text[i], radix, skip, seen, down, e) {
+            ExpStep::On(next) => {
+                e = next;
+            }
+            ExpStep::Refuse(n) => {
+                return Found::Refused(n);
+            }
+        }
+        seen = true;
+        i += 1;
+    }
+    exp_end(p, seen, e)
+}
+
+// After the mark: a sign or none, then digits.
+fn exponent(text: &[u8], from: usize, radix: u32, skip: bool, p: Parsed) -> Found
+    requires { ⌜ (from ≤ length (now text)) × Ready (now text) p ⌝ }
+    ensures { λ r. ⌜ Finds (now (text .entry)) r (reading (sepOf skip) radix (drop from (now (text .entry))) (at exponentPart nothing (writtenOf (now (text .entry)) p))) ⌝ }
+{
+    if text.len() <= from {
+        return exp_run(text, from, radix, skip, p);
+    }
+    let b = text[from];
+    if b == 43 {
+        return exp_run(text, from + 1, radix, skip, turned(p, false));
+    }
+    if b == 45 {
+        return exp_run(text, from + 1, radix, skip, turned(p, true));
+    }
+    exp_run(text, from, radix, skip, p)
+}
+
+fn turned(mut p: Parsed, down: bool) -> Parsed
+    ensures { λ r. ⌜ r ≡ withDown p down ⌝ }
+{
+    p.down = down;
+    p
+}
+
+fn based(mut p: Parsed, base: u32) -> Parsed
+    ensures { λ r. ⌜ r ≡ withMarkBase p base ⌝ }
+{
+    p.base = base;
+    p
+}
+
+// A `_` in front of which a run ended: the literal reader finds it misplaced, the plain reader no digit.
+fn under_number(skip: bool) -> u32
+    ensures { λ r. ⌜ r ≡ underNumber skip ⌝ }
+{
+    if skip {
+        return MISPLACED_UNDERSCORE;
+    }
+    INVALID_DIGIT
+}
+
+// After a run of digits, by the class of the byte in front of which it ended; the text goes on at `next`.
+fn after_run(class: Class, text: &[u8], next: usize, radix: u32, skip: bool, p: Parsed) -> Found
+    requires { ⌜ (next ≤ length (now text)) × Ready (now text) p ⌝ }
+    ensures { λ r. ⌜ Finds (now (text .entry)) r (afterRun class skip radix (drop next (now (text .entry))) (writtenOf (now (text .entry)) p)) ⌝ }
+{
+    match class {
+        Class::Sign => Found::Refused(MISPLACED_SIGN),
+        Class::Point => Found::Refused(TOO_MANY_POINTS),
+        Class::Underscore => Found::Refused(under_number(skip)),
+        Class::Mark(base) => exponent(text, next, radix, skip, based(p, base)),
+        Class::Other => Found::Refused(INVALID_DIGIT),
+    }
 }
