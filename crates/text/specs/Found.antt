@@ -50,6 +50,10 @@ writtenOf t p =
       exp = p .exp;
     }
 
+-- the whole part alone
+abbrev pub wholeOf : List ℕ → Bool → Run → Written
+wholeOf t neg r = record { neg = neg; digits = spanOf t r; after = 0; base = 1; down = false; exp = 0 }
+
 unfoldable pub foundOf : List ℕ → Found → Reading
 foundOf t (Number p) = number (writtenOf t p)
 foundOf t (Refused n) = unread n
@@ -244,11 +248,11 @@ module _ (t : List ℕ) (p : Parsed) (ready : Ready t p) where
       go false false q z = subst (λ (f : Found). Finds t f w) (sym q) (refuses z)
 
 -- ---- where no sign stands
-no-sign-at : (t : List ℕ) (from : ℕ) → from < length t → (getD t from 0 ≡ 43 → ⊥) → (getD t from 0 ≡ 45 → ⊥) → signFirst (drop from t) ≡ false
+pub no-sign-at : (t : List ℕ) (from : ℕ) → from < length t → (getD t from 0 ≡ 43 → ⊥) → (getD t from 0 ≡ 45 → ⊥) → signFirst (drop from t) ≡ false
 unfolding signFirst
 no-sign-at t from h a b = rw (drop-cons t from 0 h, ne-eqb (getD t from 0) 43 a, ne-eqb (getD t from 0) 45 b)
 
-no-sign-past : (t : List ℕ) (from : ℕ) → length t ≤ from → signFirst (drop from t) ≡ false
+pub no-sign-past : (t : List ℕ) (from : ℕ) → length t ≤ from → signFirst (drop from t) ≡ false
 unfolding signFirst
 no-sign-past t from h = rw (drop-of-length-le t h)
 

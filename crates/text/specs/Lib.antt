@@ -1,5 +1,6 @@
 pub mod Class
 pub mod Found
 pub mod Meaning
+pub mod Parts
 pub mod Reading
 pub mod Run

@@ -3,10 +3,10 @@ ghost use mathlib.Core.Path.{_≡_};
 ghost use mathlib.Core.Bool.{Bool, true};
 ghost use Prim.Native.Nat.{_+_, _*_, _<_, _≤_};
 ghost use lib.ListN.{length, drop};
-ghost use Rattle.text.specs.Meaning.{isRadix, at, whole as wholePart, fraction as fractionPart, exponent as exponentPart, nothing, sign as signSeen, blank, expLimit};
+ghost use Rattle.text.specs.Meaning.{isRadix, at, whole as wholePart, fraction as fractionPart, exponent as exponentPart, nothing, sign as signSeen, blank, expLimit, plainScan};
 ghost use Rattle.text.specs.Run.{inRun, runMore, runLen, sepOf};
-ghost use Rattle.text.specs.Found.{runOf, noDigits, unmarkedOf, expEndOf, writtenOf, withDown, withMarkBase, Ready, Finds};
-ghost use Rattle.text.specs.Reading.{reading, afterRun, underNumber, expUnder, expDigit, expOther, expStepOf};
+ghost use Rattle.text.specs.Found.{runOf, noDigits, unmarkedOf, expEndOf, writtenOf, withDown, withMarkBase, wholeOf, Counted, Ready, Finds};
+ghost use Rattle.text.specs.Reading.{reading, readingOf, afterRun, underNumber, expUnder, expDigit, expOther, expStepOf};
 use crate::byte;
 use crate::byte::Class;
 
@@ -276,4 +276,79 @@ fn after_run(class: Class, text: &[u8], next: usize, radix: u32, skip: bool, p: 
         Class::Mark(base) => exponent(text, next, radix, skip, based(p, base)),
         Class::Other => Found::Refused(INVALID_DIGIT),
     }
+}
+
+// After the point.
+fn fraction(text: &[u8], from: usize, radix: u32, skip: bool, neg: bool, whole: Run) -> Found
+    requires { ⌜ (from ≤ length (now text)) × (isRadix radix ≡ true) × Counted (now text) whole ⌝ }
+    ensures { λ r. ⌜ Finds (now (text .entry)) r (reading (sepOf skip) radix (drop from (now (text .entry))) (at fractionPart nothing (wholeOf (now (text .entry)) neg whole))) ⌝ }
+{
+    let run = run_at(text, from, radix, skip);
+    let end = run.to;
+    let p = Parsed {
+        neg,
+        whole,
+        frac: run,
+        base: 1,
+        down: false,
+        exp: 0,
+    };
+    if text.len() <= end {
+        return unmarked(p);
+    }
+    after_run(
+        byte::class_of(text[end], radix),
+        text,
+        end + 1,
+        radix,
+        skip,
+        p,
+    )
+}
+
+// The number's digits, once its sign was read.
+fn whole(text: &[u8], from: usize, radix: u32, skip: bool, neg: bool) -> Found
+    requires { ⌜ (from ≤ length (now text)) × (isRadix radix ≡ true) ⌝ }
+    ensures { λ r. ⌜ Finds (now (text .entry)) r (reading (sepOf skip) radix (drop from (now (text .entry))) (at wholePart signSeen (blank neg))) ⌝ }
+{
+    let run = run_at(text, from, radix, skip);
+    let end = run.to;
+    let p = Parsed {
+        neg,
+        whole: run,
+        frac: Run {
+            from: end,
+            to: end,
+            digits: 0,
+        },
+        base: 1,
+        down: false,
+        exp: 0,
+    };
+    if text.len() <= end {
+        return unmarked(p);
+    }
+    let b = text[end];
+    if b == 46 {
+        return fraction(text, end + 1, radix, skip, neg, run);
+    }
+    after_run(byte::class_of(b, radix), text, end + 1, radix, skip, p)
+}
+
+// A plain text in a radix.
+pub fn plain(text: &[u8], radix: u32) -> Found
+    requires { ⌜ isRadix radix ≡ true ⌝ }
+    ensures { λ r. ⌜ Finds (now (text .entry)) r (readingOf (plainScan radix (now (text .entry)))) ⌝ }
+{
+    if text.len() == 0 {
+        return whole(text, 0, radix, false, false);
+    }
+    let b = text[0];
+    if b == 43 {
+        return whole(text, 1, radix, false, false);
+    }
+    if b == 45 {
+        return whole(text, 1, radix, false, true);
+    }
+    whole(text, 0, radix, false, false)
 }
