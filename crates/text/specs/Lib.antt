@@ -1,5 +1,6 @@
 pub mod Class
 pub mod Found
+pub mod Literal
 pub mod Meaning
 pub mod Parts
 pub mod Reading

@@ -307,7 +307,7 @@ fn fraction(text: &[u8], from: usize, radix: u32, skip: bool, neg: bool, whole: 
 }
 
 // The number's digits, once its sign was read.
-fn whole(text: &[u8], from: usize, radix: u32, skip: bool, neg: bool) -> Found
+pub fn whole(text: &[u8], from: usize, radix: u32, skip: bool, neg: bool) -> Found
     requires { ⌜ (from ≤ length (now text)) × (isRadix radix ≡ true) ⌝ }
     ensures { λ r. ⌜ Finds (now (text .entry)) r (reading (sepOf skip) radix (drop from (now (text .entry))) (at wholePart signSeen (blank neg))) ⌝ }
 {
