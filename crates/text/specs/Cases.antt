@@ -1,0 +1,300 @@
+-- Document 01's cases of reading, and docs/GRAMMAR.md's telling texts, computed from the meaning: a row is a format, a text and what it gives.
+-- A format is named as in document 01: i4f4 is signed, W = 8, F = 4. Assumes nothing.
+use mathlib.Core.Path.{_≡_, refl}
+use mathlib.Core.Bool.{true, false}
+use mathlib.Core.List.{List, [], _∷_, map}
+use Prim.Native.Nat.{ℕ}
+use Prim.Native.String.{String}
+use lib.ListN.{replicate}
+use lib.IntN.{pos, negℤ}
+use Rattle.laws.specs.Nearest.{nearestEven, nearestBy}
+use Rattle.laws.specs.Text.{bytes}
+use Rattle.format.specs.declared.Manner.{Manner}
+use Rattle.format.specs.declared.Manner.the-variants.{Strict, Saturating, Wrapping, Overflowing}
+use Rattle.format.specs.Meaning.{Sign, signed, unsigned, Outcome, done, refused, isWidth, faultOf, lowest, highest, fits, hold, wrap, settle, unless, withSign}
+use Rattle.text.specs.Meaning.{
+  digitOf,
+  isMark,
+  onSign,
+  onPoint,
+  onUnderscore,
+  onMark,
+  onExpDigit,
+  onOther,
+  step,
+  scan,
+  ended,
+  finish,
+  plainScan,
+  prefixMark,
+  prefixRadix,
+  dropUnderscores,
+  literalMinus,
+  literalScan,
+  natFrom,
+  num,
+  den,
+  rawOf,
+  readScan,
+  isRadix,
+  readOf,
+  literalOf,
+}
+
+-- ---- how a row is written
+record Format : Type 0 where
+  kind : Sign
+  width : ℕ
+  frac : ℕ
+
+abbrev format : Sign → ℕ → ℕ → Format
+format s w f = record { kind = s; width = w; frac = f }
+
+abbrev i8f0 : Format
+i8f0 = format signed 8 0
+
+abbrev i4f4 : Format
+i4f4 = format signed 8 4
+
+abbrev i0f8 : Format
+i0f8 = format signed 8 8
+
+abbrev i12f4 : Format
+i12f4 = format signed 16 4
+
+abbrev i8f8 : Format
+i8f8 = format signed 16 8
+
+abbrev i1f15 : Format
+i1f15 = format signed 16 15
+
+abbrev i16f16 : Format
+i16f16 = format signed 32 16
+
+abbrev u8f0 : Format
+u8f0 = format unsigned 8 0
+
+abbrev u0f8 : Format
+u0f8 = format unsigned 8 8
+
+abbrev u8f8 : Format
+u8f8 = format unsigned 16 8
+
+abbrev u32f32 : Format
+u32f32 = format unsigned 64 32
+
+abbrev u0f64 : Format
+u0f64 = format unsigned 64 64
+
+-- the plain reader in each manner, told the radix
+abbrev reads : Manner → ℕ → Format → String → Outcome
+reads k radix g t = readOf k (g .kind) (g .width) (g .frac) radix (bytes t)
+
+abbrev strict : ℕ → Format → String → Outcome
+strict = reads Strict
+
+abbrev saturating : ℕ → Format → String → Outcome
+saturating = reads Saturating
+
+abbrev wrapping : ℕ → Format → String → Outcome
+wrapping = reads Wrapping
+
+abbrev overflowing : ℕ → Format → String → Outcome
+overflowing = reads Overflowing
+
+-- the literal reader
+abbrev literal : Format → String → Outcome
+literal g t = literalOf (g .kind) (g .width) (g .frac) (bytes t)
+
+-- what comes out, with the flag clear: a raw, or one below 0
+abbrev raw : ℕ → Outcome
+raw n = done (pos n) false
+
+abbrev minus : ℕ → Outcome
+minus n = done (negℤ (pos n)) false
+
+-- A row: what a reader computes, and what is written. To unfold `got` is to unfold the whole meaning.
+infix 80 _gives_
+data Case : Type 0 where
+  _gives_ : Outcome → Outcome → Case
+
+got : Case → Outcome
+unfolding nearestEven nearestBy bytes isWidth faultOf lowest highest fits hold wrap settle unless withSign digitOf isMark onSign onPoint onUnderscore onMark onExpDigit onOther step scan ended finish plainScan prefixMark prefixRadix dropUnderscores literalMinus literalScan natFrom num den rawOf readScan isRadix readOf literalOf
+got (a gives b) = a
+
+abbrev want : Case → Outcome
+want (a gives b) = b
+
+-- every row of a table is right
+abbrev Right : List Case → Type 0
+Right rows = map got rows ≡ map want rows
+
+-- ---- document 01, "Cases", in its order
+document : List Case
+document =
+    strict 10 i4f4 "7.96875" gives refused 10
+    ∷ strict 10 i4f4 "-8.03125" gives minus 128
+    ∷ strict 10 i4f4 "0.03125" gives raw 0
+    ∷ strict 10 i4f4 "0.09375" gives raw 2
+    ∷ strict 10 i8f0 "127.5" gives refused 10
+    ∷ wrapping 10 i8f0 "127.5" gives minus 128
+    ∷ saturating 10 i8f0 "127.5" gives raw 127
+    ∷ overflowing 10 i8f0 "127.5" gives done (negℤ (pos 128)) true
+    ∷ strict 10 i8f0 "-128.5" gives minus 128
+    ∷ strict 10 u8f0 "-0.4" gives raw 0
+    ∷ overflowing 10 u8f0 "-0.4" gives raw 0
+    ∷ strict 10 u8f0 "-0.6" gives refused 10
+    ∷ overflowing 10 u8f0 "-0.6" gives done (pos 255) true
+    ∷ strict 10 i1f15 "-1" gives minus 32768
+    ∷ strict 10 i1f15 "1" gives refused 10
+    ∷ strict 10 i1f15 "0.99998" gives raw 32767
+    ∷ strict 10 i1f15 "0.99999" gives refused 10
+    ∷ literal i1f15 "+1" gives refused 12
+    ∷ literal i1f15 "0x-1" gives refused 12
+    ∷ literal i1f15 "" gives refused 11
+    ∷ literal i8f8 "-" gives refused 11
+    ∷ literal u8f8 "-" gives refused 12
+    ∷ literal i8f8 "0X1" gives refused 13
+    ∷ []
+
+document-right : Right document
+unfolding document got
+document-right = refl
+
+-- ---- document 01, "Wrong answers that must be ruled out": a tie whose odd bit is in the integer; a digit after forty zeros; W = F; the
+-- sign of a held result
+ruled-out : List Case
+ruled-out =
+    strict 10 i8f0 "1.5" gives raw 2
+    ∷ strict 10 i8f0 "2.5" gives raw 2
+    ∷ strict 10 u8f0 "1.5" gives raw 2
+    ∷ strict 10 u8f0 "2.5" gives raw 2
+    ∷ strict 10 i8f0 "2.50000000000000000000000000000000000000000" gives raw 2
+    ∷ strict 10 i8f0 "2.500000000000000000000000000000000000000001" gives raw 3
+    ∷ strict 10 i4f4 "0.0312500000000000000000000000000000000000000001" gives raw 1
+    ∷ literal u32f32 "0.0000000001164153218269348144531250000000000000000000000000000000000000000001" gives raw 1
+    ∷ strict 10 u0f8 "0.998" gives raw 255
+    ∷ strict 10 u0f8 "0.998046875" gives refused 10
+    ∷ wrapping 10 u0f8 "0.998046875" gives raw 0
+    ∷ saturating 10 u0f8 "0.998046875" gives raw 255
+    ∷ strict 10 u0f64 "0.99999999999999999999" gives refused 10
+    ∷ strict 10 i0f8 "0.498046875" gives refused 10
+    ∷ strict 10 i0f8 "-0.501953125" gives minus 128
+    ∷ saturating 10 i8f0 "384" gives raw 127
+    ∷ wrapping 10 i8f0 "384" gives minus 128
+    ∷ saturating 10 i8f0 "-385" gives minus 128
+    ∷ wrapping 10 i8f0 "-385" gives raw 127
+    ∷ []
+
+ruled-out-right : Right ruled-out
+unfolding ruled-out got
+ruled-out-right = refl
+
+-- ---- the refusals 1, 2, 3, 4 go in this order, and before those of the text
+faults : List Case
+faults =
+    strict 3 (format signed 7 9) "x" gives refused 1
+    ∷ strict 3 (format signed 8 9) "x" gives refused 2
+    ∷ strict 3 (format signed 8 8) "x" gives refused 3
+    ∷ strict 10 (format signed 8 8) "x" gives refused 13
+    ∷ readOf Strict signed 8 8 3 (replicate 4097 48) gives refused 3
+    ∷ readOf Strict signed 8 8 10 (replicate 4097 48) gives refused 4
+    ∷ literal (format unsigned 7 9) "x" gives refused 1
+    ∷ literal (format unsigned 8 9) "x" gives refused 2
+    ∷ literalOf unsigned 8 8 (replicate 4097 48) gives refused 4
+    ∷ literal (format unsigned 8 8) "x" gives refused 13
+    ∷ []
+
+faults-right : Right faults
+unfolding faults got
+faults-right = refl
+
+-- ---- docs/GRAMMAR.md, "Telling texts": the plain reader
+telling : List Case
+telling =
+    strict 10 i4f4 "" gives refused 11
+    ∷ strict 10 i4f4 "+" gives refused 11
+    ∷ strict 10 i4f4 "." gives refused 11
+    ∷ strict 10 i4f4 "e" gives refused 11
+    ∷ strict 10 i4f4 ".e1" gives refused 11
+    ∷ strict 10 i4f4 "e5x" gives refused 16
+    ∷ strict 10 i4f4 "5." gives raw 80
+    ∷ strict 10 i4f4 ".5" gives raw 8
+    ∷ strict 10 i4f4 "+1" gives raw 16
+    ∷ strict 10 i4f4 "+-1" gives refused 12
+    ∷ strict 10 i4f4 "1-" gives refused 12
+    ∷ strict 10 i4f4 ".-1" gives refused 12
+    ∷ strict 10 i12f4 "1_0" gives refused 13
+    ∷ strict 10 i12f4 "1e1_" gives refused 16
+    ∷ strict 10 i12f4 "12a" gives refused 13
+    ∷ strict 2 i12f4 "102" gives refused 13
+    ∷ strict 8 i12f4 "18" gives refused 13
+    ∷ strict 10 i12f4 "1.2.3" gives refused 15
+    ∷ strict 10 i12f4 "1..e" gives refused 15
+    ∷ strict 10 i12f4 "1e1." gives refused 16
+    ∷ strict 10 i12f4 "1e" gives refused 17
+    ∷ strict 10 i12f4 "1e-" gives refused 17
+    ∷ strict 10 i12f4 "1e1e1" gives refused 18
+    ∷ strict 10 i12f4 "1e@" gives refused 18
+    ∷ strict 10 i12f4 "1e+-1" gives refused 12
+    ∷ strict 10 i12f4 "1e1+" gives refused 12
+    ∷ strict 10 i12f4 "1p1" gives refused 13
+    ∷ strict 10 i12f4 "1e1p" gives refused 16
+    ∷ strict 8 i12f4 "1e1p" gives refused 18
+    ∷ strict 16 i12f4 "1e1" gives raw 7696
+    ∷ strict 16 i12f4 "1@1e" gives refused 16
+    ∷ strict 16 i12f4 "1@1" gives raw 256
+    ∷ strict 16 i12f4 "1p1" gives raw 32
+    ∷ strict 8 i12f4 "1e1" gives raw 128
+    ∷ strict 8 i12f4 "1P+3" gives raw 128
+    ∷ strict 2 i12f4 "1e3" gives raw 128
+    ∷ strict 2 u32f32 "1e10" gives raw 4398046511104
+    ∷ strict 10 i4f4 "0.03e2" gives raw 48
+    ∷ strict 10 i4f4 "1e2147483648" gives refused 19
+    ∷ strict 10 i4f4 "1e-2147483649" gives refused 19
+    ∷ strict 10 i4f4 "e2147483648x" gives refused 19
+    ∷ strict 10 i12f4 "1e0000000000001" gives raw 160
+    ∷ strict 10 i4f4 "7.96875" gives refused 10
+    ∷ saturating 10 i4f4 "7.96875" gives raw 127
+    ∷ wrapping 10 i4f4 "7.96875" gives minus 128
+    ∷ strict 10 i4f4 "-8.03125" gives minus 128
+    ∷ strict 10 u8f0 "-0.4" gives raw 0
+    ∷ strict 10 u8f0 "-0.6" gives refused 10
+    ∷ strict 10 i8f0 "2.5" gives raw 2
+    ∷ []
+
+telling-right : Right telling
+unfolding telling got
+telling-right = refl
+
+-- ---- and the literal reader
+telling-literals : List Case
+telling-literals =
+    literal i8f8 "" gives refused 11
+    ∷ literal i8f8 "-" gives refused 11
+    ∷ literal u8f8 "-" gives refused 12
+    ∷ literal u8f8 "-0" gives refused 12
+    ∷ literal i8f8 "+1" gives refused 12
+    ∷ literal i8f8 "--1" gives refused 12
+    ∷ literal i8f8 "0x-1" gives refused 12
+    ∷ literal i8f8 "-0x1" gives minus 256
+    ∷ literal i8f8 "0X1" gives refused 13
+    ∷ literal i8f8 "0x" gives refused 11
+    ∷ literal i8f8 "0x__1" gives raw 256
+    ∷ literal i8f8 "0b1.1" gives raw 384
+    ∷ literal i8f8 "0o17" gives raw 3840
+    ∷ literal i8f8 "0_x1" gives refused 13
+    ∷ literal i8f8 "00x1" gives refused 13
+    ∷ literal i8f8 "_1" gives refused 14
+    ∷ literal i8f8 "1._5" gives refused 14
+    ∷ literal i8f8 "1e_1" gives refused 14
+    ∷ literal i8f8 "1e-_1" gives refused 14
+    ∷ literal i8f8 "1__2_.5_e0_" gives raw 3200
+    ∷ literal i8f8 "1e+1" gives raw 2560
+    ∷ literal i16f16 "0.127_5e2" gives raw 835584
+    ∷ literal i16f16 "0x_18@-1" gives raw 98304
+    ∷ []
+
+telling-literals-right : Right telling-literals
+unfolding telling-literals got
+telling-literals-right = refl
