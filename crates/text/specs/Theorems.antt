@@ -14,7 +14,7 @@ use Rattle.laws.specs.Nearest.{Nearest, nearest, nearest-unique}
 use Rattle.format.specs.declared.Manner.{Manner}
 use Rattle.format.specs.declared.Manner.the-variants.{Strict, Saturating, Wrapping, Overflowing}
 use Rattle.format.specs.Meaning.{Sign, signed, unsigned, Outcome, done, refused, isWidth, faultOf, unless, fits, settle, withSign}
-use Rattle.format.specs.Theorems.{InRange, limit, settle-fits, strict-refuses}
+use Rattle.format.specs.Theorems.{InRange, limit, in-fits, settle-fits, strict-refuses}
 use Rattle.format.specs.Fault.{fault-free, width-bounds}
 use Rattle.format.specs.Settle.{unless-none, unless-fault}
 use Rattle.format.specs.Place.{within, fits-place}
@@ -70,7 +70,7 @@ use Rattle.text.specs.Meaning.{
   readOf,
   literalOf,
 }
-use Rattle.text.specs.Accepted.{Sound, Ends, plain-ends, literal-ends, ends-sound, ends-kind, radix-two, prefix-radix, sound-base, finish-at}
+use Rattle.text.specs.Accepted.{Sound, Ends, ends-at, ends-not, plain-ends, literal-ends, ends-sound, ends-kind, radix-two, prefix-radix, sound-base, finish-at}
 use Rattle.text.specs.Rounding.{den-pos, zero-more, ByRadix, upward, downward, same-place}
 
 -- ---- taken texts
@@ -95,8 +95,31 @@ pub record TakenLiteral (s : Sign) (w f : ℕ) (t : List ℕ) (x : Written) : Ty
 some-width : (w f : ℕ) → faultOf w f ≡ 0 → 0 < w
 some-width w f h = omega (arith, width-bounds w (fault-free w f h .0))
 
--- ---- nearest, ties to even. Let m be the whole number nearest to |t| x 2^F: |m x den - num x 2^F| is at most half of den, and m is even at a tie
--- (`Nearest` of laws). There is one, and only one; a reader that takes the text answers with it and the sign, if that fits.
+-- the sign and the magnitude m of a number settled: what fits is done, what does not is refused in the strict manner
+module _ (s : Sign) (w f radix : ℕ) (x : Written) (some : 0 < w) (deep : 0 < den radix x) (m : ℕ) (near : Nearest (num radix x * 2 ^ f) (den radix x) m) where
+  only : rawOf radix f x ≡ m
+  unfolding rawOf
+  only = nearest-unique _ _ _ m deep (nearest (num radix x * 2 ^ f) (den radix x) deep) near
+
+  fits-done : {o : Outcome} (k : Manner) → o ≡ settle k s w (withSign (x .neg) (rawOf radix f x)) → InRange s w (withSign (x .neg) m) → o ≡ done (withSign (x .neg) m) false
+  fits-done k e h = e ∙ rw only (settle-fits s w (withSign (x .neg) m) k some h)
+
+  over-iff : {o : Outcome} → o ≡ settle Strict s w (withSign (x .neg) (rawOf radix f x)) → (o ≡ refused 10) ↔ (InRange s w (withSign (x .neg) m) → ⊥)
+  over-iff e = rw (e, only) (strict-refuses s w (withSign (x .neg) m))
+
+-- a number below 0 is in an unsigned range only if it is 0
+minus-fits : (w m : ℕ) → InRange unsigned w (withSign true m) ↔ (m ≡ 0)
+unfolding limit
+minus-fits w m =
+    (λ h. omega (arith, leb-true m 0 (sym (fits-place unsigned w true m) ∙ in-fits h)), λ h. within unsigned w true m (omega arith))
+
+unsigned-iff : (w m : ℕ) (neg : Bool) {A : Type 0} → neg ≡ true → (A ↔ (InRange unsigned w (withSign neg m) → ⊥)) → A ↔ (m ≡ 0 → ⊥)
+unsigned-iff w m neg t e = let e′ = rw t at e in (λ a z. e′ .0 a (minus-fits w m .1 z), λ h. e′ .1 (λ r. h (minus-fits w m .0 r)))
+
+-- ---- Nearest, ties to even. Let m be the whole number nearest to |t| x 2^F: |m x den - num x 2^F| is at most half of den, and m is even at a tie
+-- (`Nearest` of laws). There is one (`rounded`); nothing else is (`nearest-unique`); a reader that takes the text answers with it, the sign applied,
+-- with the flag clear, if that fits, and strict refuses with 10 exactly if it does not.
+-- "Unsigned and negative: overflow exactly if that rounded magnitude is not 0."
 module _ {w f radix : ℕ} {t : List ℕ} {x : Written} (taken : Taken w f radix t x) where
   pub den-positive : 0 < den radix x
   den-positive =
@@ -112,13 +135,91 @@ module _ {w f radix : ℕ} {t : List ℕ} {x : Written} (taken : Taken w f radix
   rounded = nearest (num radix x * 2 ^ f) (den radix x) den-positive
 
   module _ (m : ℕ) (near : Nearest (num radix x * 2 ^ f) (den radix x) m) where
-    only : rawOf radix f x ≡ m
-    only = nearest-unique _ _ _ m den-positive rounded near
-
-    -- in each manner, and with the flag clear, if it fits
     pub read-nearest : (k : Manner) (s : Sign) → InRange s w (withSign (x .neg) m) → readOf k s w f radix t ≡ done (withSign (x .neg) m) false
-    read-nearest k s h = read-as k s ∙ rw only (settle-fits s w (withSign (x .neg) m) k (some-width w f (taken .format)) h)
+    read-nearest k s = fits-done s w f radix x (some-width w f (taken .format)) den-positive m near k (read-as k s)
 
-    -- in the strict manner refusal 10, exactly if it does not
     pub read-over : (s : Sign) → (readOf Strict s w f radix t ≡ refused 10) ↔ (InRange s w (withSign (x .neg) m) → ⊥)
-    read-over s = rw (read-as Strict s, only) (strict-refuses s w (withSign (x .neg) m))
+    read-over s = over-iff s w f radix x (some-width w f (taken .format)) den-positive m near (read-as Strict s)
+
+    pub read-minus : x .neg ≡ true → (readOf Strict unsigned w f radix t ≡ refused 10) ↔ (m ≡ 0 → ⊥)
+    read-minus n = unsigned-iff w m (x .neg) n (read-over unsigned)
+
+-- the same of literals
+module _ {s : Sign} {w f : ℕ} {t : List ℕ} {x : Written} (taken : TakenLiteral s w f t x) where
+  pub literal-den-positive : 0 < den (literalRadix s t) x
+  literal-den-positive =
+      let r = radix-two (literalRadix s t) (prefix-radix (literalBody s t)) in
+      den-pos (literalRadix s t) x (omega arith) (sound-base (omega arith) (ends-sound (subst (Ends (literalRadix s t)) (taken .scanned) (literal-ends s t))))
+
+  pub literal-as : literalOf s w f t ≡ settle Strict s w (withSign (x .neg) (rawOf (literalRadix s t) f x))
+  unfolding literalOf readScan
+  literal-as = unless-none (faultOf w f) _ (taken .format) ∙ rw (le-leb (length t) textLimit (taken .short), taken .scanned)
+
+  pub literal-rounded : Nearest (num (literalRadix s t) x * 2 ^ f) (den (literalRadix s t) x) (rawOf (literalRadix s t) f x)
+  unfolding rawOf
+  literal-rounded = nearest _ _ literal-den-positive
+
+  module _ (m : ℕ) (near : Nearest (num (literalRadix s t) x * 2 ^ f) (den (literalRadix s t) x) m) where
+    pub literal-nearest : InRange s w (withSign (x .neg) m) → literalOf s w f t ≡ done (withSign (x .neg) m) false
+    literal-nearest = fits-done s w f (literalRadix s t) x (some-width w f (taken .format)) literal-den-positive m near Strict literal-as
+
+    pub literal-over : (literalOf s w f t ≡ refused 10) ↔ (InRange s w (withSign (x .neg) m) → ⊥)
+    literal-over = over-iff s w f (literalRadix s t) x (some-width w f (taken .format)) literal-den-positive m near literal-as
+
+-- ---- The refusals before the text is read: 1, 2, 3, 4 in this order, each exactly if its condition holds and no earlier one's does.
+pub data Early (w f radix : ℕ) (t : List ℕ) : ℕ → Type 0 where
+  width : isWidth w ≡ false → Early w f radix t 1
+  frac : isWidth w ≡ true → w < f → Early w f radix t 2
+  base : isWidth w ≡ true → f ≤ w → isRadix radix ≡ false → Early w f radix t 3
+  size : isWidth w ≡ true → f ≤ w → isRadix radix ≡ true → textLimit < length t → Early w f radix t 4
+
+-- what is settled is refused with 10 only, and a scan with 11 to 19
+settle-ten : (k : Manner) (s : Sign) (w : ℕ) (z : ℤ) {n : ℕ} → settle k s w z ≡ refused n → n ≡ 10
+unfolding settle
+settle-ten Strict s w z {n} e = go (fits s w z) e
+  where
+    go : (t : Bool) → cond t (done z false) (refused 10) ≡ refused n → n ≡ 10
+    go true e = let z : _≡_ {A = ℕ} 0 1 = cc in absurd (omega arith)
+    go false e = cc
+settle-ten Saturating s w z e = let z : _≡_ {A = ℕ} 0 1 = cc in absurd (omega arith)
+settle-ten Wrapping s w z e = let z : _≡_ {A = ℕ} 0 1 = cc in absurd (omega arith)
+settle-ten Overflowing s w z e = let z : _≡_ {A = ℕ} 0 1 = cc in absurd (omega arith)
+
+late : (k : Manner) (s : Sign) (w f radix : ℕ) {r : Scan} → Ends radix r → (n : ℕ) → readScan k s w f radix r ≡ refused n → 10 ≤ n
+unfolding readScan
+late k s w f radix (ends-at {x = x} h) n e = omega (arith, settle-ten k s w (withSign (x .neg) (rawOf radix f x)) e)
+late k s w f radix (ends-not {n = m} l h) n e = let same : m ≡ n = cc in omega arith
+
+module _ (w f radix : ℕ) (t : List ℕ) {o : Outcome} (later : (n : ℕ) → o ≡ refused n → 10 ≤ n) where
+  -- the four tests of a reader, and then the text
+  abbrev checked : Outcome
+  checked = unless (faultOf w f) (cond (isRadix radix) (cond (leb (length t) textLimit) o (refused 4)) (refused 3))
+
+  early-iff : (n : ℕ) → n < 10 → (checked ≡ refused n) ↔ Early w f radix t n
+  unfolding faultOf unless
+  early-iff n h = (go (isWidth w) (leb f w) (isRadix radix) (leb (length t) textLimit) refl refl refl refl, back)
+    where
+      go : (a b c d : Bool) → isWidth w ≡ a → leb f w ≡ b → isRadix radix ≡ c → leb (length t) textLimit ≡ d
+          → unless (cond a (cond b 0 2) 1) (cond c (cond d o (refused 4)) (refused 3)) ≡ refused n → Early w f radix t n
+      go false b c d p q r u e = subst (Early w f radix t) (cc) (width p)
+      go true false c d p q r u e = subst (Early w f radix t) (cc) (frac p (leb-false f w q))
+      go true true false d p q r u e = subst (Early w f radix t) (cc) (base p (leb-true f w q) r)
+      go true true true false p q r u e = subst (Early w f radix t) (cc) (size p (leb-true f w q) r (leb-false (length t) textLimit u))
+      go true true true true p q r u e = absurd (omega (arith, later n e))
+
+      back : {n : ℕ} → Early w f radix t n → checked ≡ refused n
+      back (width p) = rw p
+      back (frac p q) = rw (p, lt-leb f w q)
+      back (base p q r) = rw (p, le-leb f w q, r)
+      back (size p q r u) = rw (p, le-leb f w q, r, lt-leb (length t) textLimit u)
+
+pub read-early : (k : Manner) (s : Sign) (w f radix : ℕ) (t : List ℕ) (n : ℕ) → n < 10 → (readOf k s w f radix t ≡ refused n) ↔ Early w f radix t n
+unfolding readOf
+read-early k s w f radix t n h = early-iff w f radix t (late k s w f radix (plain-ends radix t)) n h
+
+-- a literal has a legal radix, so 3 does not occur
+pub literal-early : (s : Sign) (w f : ℕ) (t : List ℕ) (n : ℕ) → n < 10 → (literalOf s w f t ≡ refused n) ↔ Early w f (literalRadix s t) t n
+unfolding literalOf
+literal-early s w f t n h =
+    let e = early-iff w f (literalRadix s t) t (late Strict s w f (literalRadix s t) (literal-ends s t)) n h in
+    rw (prefix-radix (literalBody s t)) at e
