@@ -1,11 +1,12 @@
 -- Document 01's cases of reading, and docs/GRAMMAR.md's telling texts, computed from the meaning: a row is a format, a text and what it gives.
 -- A format is named as in document 01: i4f4 is signed, W = 8, F = 4. Assumes nothing.
-use mathlib.Core.Path.{_≡_, refl}
-use mathlib.Core.Bool.{true, false}
+use mathlib.Core.Path.{_≡_, refl, _∙_}
+use mathlib.Core.Bool.{Bool, true, false}
 use mathlib.Core.List.{List, [], _∷_, map}
-use Prim.Native.Nat.{ℕ}
+use Prim.Native.Nat.{ℕ, _≤_}
 use Prim.Native.String.{String}
-use lib.ListN.{replicate}
+use lib.Dec.{lit≤}
+use lib.ListN.{length, replicate}
 use lib.IntN.{pos, negℤ}
 use Rattle.laws.specs.Nearest.{nearestEven, nearestBy}
 use Rattle.laws.specs.Text.{bytes}
@@ -39,7 +40,13 @@ use Rattle.text.specs.Meaning.{
   isRadix,
   readOf,
   literalOf,
+  Written,
+  exponent,
+  digit,
+  at,
 }
+use Rattle.text.specs.Rounding.{huge-over, huge-wraps, huge-under, nothing-written}
+use Rattle.text.specs.Theorems.{Taken, read-as, den-positive}
 
 -- ---- how a row is written
 record Format : Type 0 where
@@ -298,3 +305,43 @@ telling-literals =
 telling-literals-right : Right telling-literals
 unfolding telling-literals got
 telling-literals-right = refl
+
+-- ---- the numbers of these that are too large to be written out: the scan is computed, and the answer follows from how far the exponent goes
+abbrev far : ℕ → Bool → ℕ → Written
+far d down e = record { neg = false; digits = d ∷ []; after = 0; base = 10; down = down; exp = e }
+
+taken : (t : String) (x : Written) → length (bytes t) ≤ 4096 → plainScan 10 (bytes t) ≡ at exponent digit x → Taken 8 4 10 (bytes t) x
+unfolding faultOf isWidth isRadix
+taken t x h e = record { format = refl; legal = refl; short = h; part = exponent; seen = digit; scanned = e }
+
+largest : Taken 8 4 10 (bytes "1e2147483647") (far 1 false 2147483647)
+unfolding got
+largest = taken "1e2147483647" (far 1 false 2147483647) (lit≤ tt) refl
+
+largest-zero : Taken 8 4 10 (bytes "0e2147483647") (far 0 false 2147483647)
+unfolding got
+largest-zero = taken "0e2147483647" (far 0 false 2147483647) (lit≤ tt) refl
+
+smallest : Taken 8 4 10 (bytes "1e-2147483648") (far 1 true 2147483648)
+unfolding got
+smallest = taken "1e-2147483648" (far 1 true 2147483648) (lit≤ tt) refl
+
+-- a magnitude of 0 fits
+nothing : {m : ℕ} → m ≡ 0 → settle Strict signed 8 (withSign false m) ≡ raw 0
+unfolding settle fits lowest highest withSign
+nothing e = rw e
+
+largest-strict : strict 10 i4f4 "1e2147483647" ≡ refused 10
+unfolding natFrom
+largest-strict = read-as largest Strict signed ∙ huge-over signed 8 10 4 (far 1 false 2147483647) (lit≤ tt) (lit≤ tt) refl refl (lit≤ tt) (lit≤ tt)
+
+largest-wrapping : wrapping 10 i4f4 "1e2147483647" ≡ raw 0
+largest-wrapping = read-as largest Wrapping signed ∙ huge-wraps signed 8 10 5 4 (far 1 false 2147483647) (lit≤ tt) (lit≤ tt) refl refl refl (lit≤ tt)
+
+largest-zero-strict : strict 10 i4f4 "0e2147483647" ≡ raw 0
+unfolding natFrom
+largest-zero-strict = read-as largest-zero Strict signed ∙ nothing (nothing-written 10 4 (far 0 false 2147483647) (den-positive largest-zero) refl)
+
+smallest-strict : strict 10 i4f4 "1e-2147483648" ≡ raw 0
+unfolding natFrom
+smallest-strict = read-as smallest Strict signed ∙ nothing (huge-under 10 4 1 (far 1 true 2147483648) (lit≤ tt) (lit≤ tt) refl (lit≤ tt) (lit≤ tt))
