@@ -5,57 +5,16 @@ use mathlib.Core.Bool.{Bool, true, false, cond, _||_, false≢true}
 use mathlib.Core.List.{List, [], _∷_, _++_, List·Memᴰ, List·Memᴰ·not-nil, List·Memᴰ·append-cases, List·Memᴰ·eq-of-singleton}
 use Prim.Native.Nat.{ℕ, _+_, _*_, _≤_, _<_}
 use native.Mathlib.Omega.{arith}
-use lib.Dec.{T, leb, ltb, eqb, leb→le}
-use lib.ListN.{length, length-append, drop}
-use borrow.Author.Tests.{leb-true, ltb-true, eqb-true, eqb-false}
+use lib.Dec.{T, leb, eqb, leb→le}
+use lib.ListN.{length, length-append}
+use borrow.Author.Tests.{leb-true, ltb-true, eqb-true}
 use Rattle.format.specs.Meaning.{Sign}
 use Rattle.text.specs.declared.Sep.{Sep}
 use Rattle.text.specs.declared.Sep.the-variants.{Skip, Error}
-use Rattle.text.specs.Meaning.{
-  digitOf,
-  isDigit,
-  isSign,
-  isBitMark,
-  isMark,
-  baseOf,
-  Written,
-  Part,
-  whole,
-  fraction,
-  exponent,
-  Seen,
-  nothing,
-  sign,
-  digit,
-  Scan,
-  at,
-  refuse,
-  blank,
-  withDigit,
-  withBase,
-  withExp,
-  onSign,
-  onPoint,
-  invalid,
-  onUnderscore,
-  onMark,
-  expLimit,
-  onExpDigit,
-  onOther,
-  step,
-  scan,
-  ended,
-  finish,
-  plainScan,
-  prefixMark,
-  prefixRadix,
-  afterPrefix,
-  literalMinus,
-  literalBody,
-  literalRadix,
-  literalScan,
-  isRadix,
-}
+use Rattle.text.specs.Meaning.{digitOf, isDigit, isSign, isBitMark, isMark, baseOf, Written, Part, whole, fraction, exponent, Seen, nothing}
+use Rattle.text.specs.Meaning.{sign, digit, Scan, at, refuse, blank, withDigit, onSign, onPoint, invalid, onUnderscore, onMark, expLimit}
+use Rattle.text.specs.Meaning.{onExpDigit, onOther, step, scan, ended, finish, plainScan, prefixMark, prefixRadix, afterPrefix, literalMinus}
+use Rattle.text.specs.Meaning.{literalBody, literalRadix, literalScan, isRadix}
 
 -- the exponent: 0 until a digit of it was read, then within its range
 pub ExpIs : Part → Seen → Bool → ℕ → Type 0
@@ -240,3 +199,15 @@ finish-at (at p q y) {p = p′} {q = q′} {x} e = go (eqb (length (y .digits)) 
     go false z exponent nothing e = let z : _≡_ {A = ℕ} 0 1 = cc in absurd (omega arith)
     go false z exponent sign e = let z : _≡_ {A = ℕ} 0 1 = cc in absurd (omega arith)
     go false z exponent digit e = let same : y ≡ x = cc in (e, ap (λ (v : Written). eqb (length (v .digits)) 0) (sym same) ∙ z)
+
+-- ---- a refusal stands; and one text after another
+pub scan-refuse : (k : Sep) (radix : ℕ) (t : List ℕ) (n : ℕ) → scan k radix t (refuse n) ≡ refuse n
+unfolding scan
+scan-refuse k radix [] n = refl
+scan-refuse k radix (b ∷ t) n = refl
+
+pub scan-append : (k : Sep) (radix : ℕ) (t u : List ℕ) (r : Scan) → scan k radix (t ++ u) r ≡ scan k radix u (scan k radix t r)
+unfolding scan
+scan-append k radix [] u r = refl
+scan-append k radix (b ∷ t) u (refuse n) = sym (scan-refuse k radix u n)
+scan-append k radix (b ∷ t) u (at p q x) = scan-append k radix t u (step k radix b p q x)

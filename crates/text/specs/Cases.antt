@@ -12,39 +12,11 @@ use Rattle.laws.specs.Nearest.{nearestEven, nearestBy}
 use Rattle.laws.specs.Text.{bytes}
 use Rattle.format.specs.declared.Manner.{Manner}
 use Rattle.format.specs.declared.Manner.the-variants.{Strict, Saturating, Wrapping, Overflowing}
-use Rattle.format.specs.Meaning.{Sign, signed, unsigned, Outcome, done, refused, isWidth, faultOf, lowest, highest, fits, hold, wrap, settle, unless, withSign}
-use Rattle.text.specs.Meaning.{
-  digitOf,
-  isMark,
-  onSign,
-  onPoint,
-  onUnderscore,
-  onMark,
-  onExpDigit,
-  onOther,
-  step,
-  scan,
-  ended,
-  finish,
-  plainScan,
-  prefixMark,
-  prefixRadix,
-  dropUnderscores,
-  literalMinus,
-  literalScan,
-  natFrom,
-  num,
-  den,
-  rawOf,
-  readScan,
-  isRadix,
-  readOf,
-  literalOf,
-  Written,
-  exponent,
-  digit,
-  at,
-}
+use Rattle.format.specs.Meaning.{Sign, signed, unsigned, Outcome, done, refused, isWidth, faultOf, lowest, highest, fits, hold, wrap, settle, unless}
+use Rattle.format.specs.Meaning.{withSign}
+use Rattle.text.specs.Meaning.{digitOf, isMark, onSign, onPoint, onUnderscore, onMark, onExpDigit, onOther, step, scan, ended, finish}
+use Rattle.text.specs.Meaning.{plainScan, prefixMark, prefixRadix, dropUnderscores, literalMinus, literalScan, natFrom, num, den, rawOf}
+use Rattle.text.specs.Meaning.{readScan, isRadix, readOf, literalOf, Written, exponent, digit, at}
 use Rattle.text.specs.Rounding.{huge-over, huge-wraps, huge-under, nothing-written}
 use Rattle.text.specs.Theorems.{Taken, read-as, den-positive}
 
@@ -139,23 +111,28 @@ Right rows = map got rows ≡ map want rows
 -- ---- document 01, "Cases", in its order
 document : List Case
 document =
+    -- W 8 signed, F 4
     strict 10 i4f4 "7.96875" gives refused 10
     ∷ strict 10 i4f4 "-8.03125" gives minus 128
     ∷ strict 10 i4f4 "0.03125" gives raw 0
     ∷ strict 10 i4f4 "0.09375" gives raw 2
+    -- W 8 signed, F 0
     ∷ strict 10 i8f0 "127.5" gives refused 10
     ∷ wrapping 10 i8f0 "127.5" gives minus 128
     ∷ saturating 10 i8f0 "127.5" gives raw 127
     ∷ overflowing 10 i8f0 "127.5" gives done (negℤ (pos 128)) true
     ∷ strict 10 i8f0 "-128.5" gives minus 128
+    -- W 8 unsigned, F 0
     ∷ strict 10 u8f0 "-0.4" gives raw 0
     ∷ overflowing 10 u8f0 "-0.4" gives raw 0
     ∷ strict 10 u8f0 "-0.6" gives refused 10
     ∷ overflowing 10 u8f0 "-0.6" gives done (pos 255) true
+    -- I1F15
     ∷ strict 10 i1f15 "-1" gives minus 32768
     ∷ strict 10 i1f15 "1" gives refused 10
     ∷ strict 10 i1f15 "0.99998" gives raw 32767
     ∷ strict 10 i1f15 "0.99999" gives refused 10
+    -- literals
     ∷ literal i1f15 "+1" gives refused 12
     ∷ literal i1f15 "0x-1" gives refused 12
     ∷ literal i1f15 "" gives refused 11
@@ -168,18 +145,20 @@ document-right : Right document
 unfolding document got
 document-right = refl
 
--- ---- document 01, "Wrong answers that must be ruled out": a tie whose odd bit is in the integer; a digit after forty zeros; W = F; the
--- sign of a held result
+-- ---- document 01, "Wrong answers that must be ruled out", where they concern reading
 ruled-out : List Case
 ruled-out =
+    -- a tie whose odd bit is in the integer
     strict 10 i8f0 "1.5" gives raw 2
     ∷ strict 10 i8f0 "2.5" gives raw 2
     ∷ strict 10 u8f0 "1.5" gives raw 2
     ∷ strict 10 u8f0 "2.5" gives raw 2
+    -- a digit after forty zeros, and only the zeros
     ∷ strict 10 i8f0 "2.50000000000000000000000000000000000000000" gives raw 2
     ∷ strict 10 i8f0 "2.500000000000000000000000000000000000000001" gives raw 3
     ∷ strict 10 i4f4 "0.0312500000000000000000000000000000000000000001" gives raw 1
     ∷ literal u32f32 "0.0000000001164153218269348144531250000000000000000000000000000000000000000001" gives raw 1
+    -- W = F: up to 1 is an overflow
     ∷ strict 10 u0f8 "0.998" gives raw 255
     ∷ strict 10 u0f8 "0.998046875" gives refused 10
     ∷ wrapping 10 u0f8 "0.998046875" gives raw 0
@@ -187,6 +166,7 @@ ruled-out =
     ∷ strict 10 u0f64 "0.99999999999999999999" gives refused 10
     ∷ strict 10 i0f8 "0.498046875" gives refused 10
     ∷ strict 10 i0f8 "-0.501953125" gives minus 128
+    -- held by its own sign, not by the wrapped one's
     ∷ saturating 10 i8f0 "384" gives raw 127
     ∷ wrapping 10 i8f0 "384" gives minus 128
     ∷ saturating 10 i8f0 "-385" gives minus 128

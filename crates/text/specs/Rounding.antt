@@ -9,16 +9,16 @@ use native.Mathlib.Nat.{mul-pos, one-le-pow, pow-le-pow-left, mul-le-mul, pow-su
 use native.Mathlib.Numerals.{add-one}
 use native.Mathlib.Omega.{arith}
 use lib.Pow.{pow-pos, pow-mono, pow-add}
-use lib.IntN.{ℤ, pos, negℤ, _+ℤ_, _*ℤ_}
-use lib.ListN.{length, length-append}
+use lib.IntN.{ℤ, pos, _+ℤ_, _*ℤ_}
+use lib.ListN.{length}
 use borrow.Author.Tests.{lt-leb}
 use Rattle.laws.specs.Diff.{up, dn, add-out}
 use Rattle.laws.specs.Order.{mul-out}
 use Rattle.laws.specs.Signed.{signed as kit}
-use Rattle.laws.specs.Nearest.{nearestEven, Nearest, nearest, nearest-unique, nearest-same, nearest-none, nearest-least, nearest-exact}
+use Rattle.laws.specs.Nearest.{nearestEven, nearest-same, nearest-none, nearest-least, nearest-exact}
 use Rattle.format.specs.declared.Manner.the-variants.{Strict, Wrapping}
-use Rattle.format.specs.Meaning.{Sign, signed, unsigned, fits, wrap, settle, withSign, done, refused}
-use Rattle.format.specs.Theorems.{InRange, limit, lowest-out, highest-out, wrap-only}
+use Rattle.format.specs.Meaning.{Sign, signed, unsigned, wrap, settle, withSign, done, refused}
+use Rattle.format.specs.Theorems.{limit, lowest-out, highest-out, wrap-only}
 use Rattle.format.specs.Fault.{half-word}
 use Rattle.format.specs.Place.{sign-out, fits-place}
 use Rattle.text.specs.Meaning.{Written, withDigit, natFrom, natOf, num, den, rawOf}
@@ -184,3 +184,16 @@ huge-wraps s w radix h f x some k e b t l =
     let exact : nearestEven (natOf radix (x .digits) * radix ^ x .exp * 2 ^ f) (places * 1) ≡ c * 2 ^ w =
     ap (λ (n : ℕ). nearestEven n (places * 1)) whole ∙ nearest-exact (c * 2 ^ w) (places * 1) (mul-pos (one-le-pow (x .after) radix (omega arith)) (omega arith)) in
     rw (t, b, exact, whole-turns s w c (x .neg) some)
+
+-- ---- n digits of the radix are a number below radix^n
+natFrom-below : (radix : ℕ) (ds : List ℕ) (n : ℕ) → ((d : ℕ) → List·Memᴰ d ds → d < radix) → natFrom radix ds n < suc n * radix ^ length ds
+unfolding natFrom
+natFrom-below radix [] n h = rw pow-zero (omega arith)
+natFrom-below radix (d ∷ ds) n h =
+    let rest = natFrom-below radix ds (n * radix + d) (λ c m. h c (List·Memᴰ·tail m)) in
+    let one : d < radix = h d (List·Memᴰ·head refl) in
+    let more : suc (n * radix + d) * radix ^ length ds ≤ suc n * radix * radix ^ length ds = mul-le-mul-right (radix ^ length ds) (omega arith) in
+    rw pow-suc (omega arith)
+
+pub natOf-below : (radix : ℕ) (ds : List ℕ) → ((d : ℕ) → List·Memᴰ d ds → d < radix) → natOf radix ds < radix ^ length ds
+natOf-below radix ds h = omega (arith, natFrom-below radix ds 0 h)

@@ -1,77 +1,36 @@
--- What is proved of the meaning of a text. A text that is taken gives the multiple of the step nearest to what is written, ties to even, if that
--- fits; the refusals come in the document's order; zeros at the end, the place of the point and the reader change nothing. Assumes nothing.
+-- What is proved of the meaning of a text.
+--   nearest         read-nearest, read-over, read-minus, and of literals: a text that is taken gives the multiple of the step nearest to what is
+--                   written, ties to even, if that fits, and overflow exactly if it does not
+--   refusals        read-early, literal-early: 1, 2, 3, 4 in this order, each exactly by its condition
+--   zeros           read-zeros, literal-zeros: `0` appended after the point change nothing
+--   the point       read-point, point-up, point-down: where it stands does not matter if the exponent makes up for it
+--   plain, literal  literal-plain, literal-as-plain, literal-reads: a literal reads as the plain text that it stands for
+-- Assumes nothing.
 use mathlib.Core.Path.{_≡_, refl, sym, ap, _∙_, subst}
-use mathlib.Core.Logic.{_⊎_, inl, inr, _↔_}
-use mathlib.Core.Bool.{Bool, true, false, cond, _&&_, _||_, not, true≢false, false≢true}
-use mathlib.Core.List.{List, [], _∷_, _++_, List·Memᴰ, List·Memᴰ·head, List·Memᴰ·tail}
-use Prim.Native.Nat.{ℕ, zero, suc, _+_, _-_, _*_, _^_, _≤_, _<_}
+use mathlib.Core.Logic.{inl, _↔_}
+use mathlib.Core.Bool.{Bool, true, false, cond}
+use mathlib.Core.List.{List, _++_, List·Memᴰ}
+use Prim.Native.Nat.{ℕ, _+_, _*_, _^_, _≤_, _<_}
 use native.Mathlib.Omega.{arith}
-use lib.Dec.{leb, ltb, eqb}
-use lib.IntN.{ℤ, pos}
-use lib.ListN.{length, length-append, replicate, length-replicate, drop, getD}
-use borrow.Author.Tests.{le-leb, lt-leb, leb-true, leb-false, eqb-true, eqb-false, ne-eqb, lt-ltb}
+use lib.Dec.{leb}
+use lib.IntN.{ℤ}
+use lib.ListN.{length, length-append, length-replicate}
+use borrow.Author.Tests.{le-leb, lt-leb, leb-true, leb-false}
 use Rattle.laws.specs.Nearest.{Nearest, nearest, nearest-unique}
 use Rattle.format.specs.declared.Manner.{Manner}
 use Rattle.format.specs.declared.Manner.the-variants.{Strict, Saturating, Wrapping, Overflowing}
-use Rattle.format.specs.Meaning.{Sign, signed, unsigned, Outcome, done, refused, isWidth, faultOf, unless, fits, settle, withSign}
+use Rattle.format.specs.Meaning.{Sign, unsigned, Outcome, done, refused, isWidth, faultOf, unless, fits, settle, withSign}
 use Rattle.format.specs.Theorems.{InRange, limit, in-fits, settle-fits, strict-refuses}
 use Rattle.format.specs.Fault.{fault-free, width-bounds}
-use Rattle.format.specs.Settle.{unless-none, unless-fault}
+use Rattle.format.specs.Settle.{unless-none}
 use Rattle.format.specs.Place.{within, fits-place}
-use Rattle.text.specs.declared.Sep.{Sep}
 use Rattle.text.specs.declared.Sep.the-variants.{Skip, Error}
-use Rattle.text.specs.Meaning.{
-  digitOf,
-  isDigit,
-  isSign,
-  isBitMark,
-  isMark,
-  baseOf,
-  Written,
-  Part,
-  whole,
-  fraction,
-  exponent,
-  Seen,
-  nothing,
-  sign,
-  digit,
-  Scan,
-  at,
-  refuse,
-  blank,
-  withDigit,
-  onSign,
-  onPoint,
-  invalid,
-  onUnderscore,
-  onMark,
-  onOther,
-  step,
-  scan,
-  ended,
-  finish,
-  plainScan,
-  prefixMark,
-  prefixRadix,
-  dropUnderscores,
-  afterPrefix,
-  literalMinus,
-  literalBody,
-  literalRadix,
-  literalScan,
-  natOf,
-  num,
-  den,
-  rawOf,
-  readScan,
-  textLimit,
-  isRadix,
-  readOf,
-  literalOf,
-}
-use Rattle.text.specs.Accepted.{Sound, Ends, ends-at, ends-not, plain-ends, literal-ends, ends-sound, ends-kind, radix-two, prefix-radix, sound-base, finish-at}
-use Rattle.text.specs.Rounding.{den-pos, zero-more, ByRadix, upward, downward, same-place}
+use Rattle.text.specs.Meaning.{Written, Part, whole, fraction, Seen, nothing, sign, Scan, at, blank, plainScan, afterPrefix, literalMinus}
+use Rattle.text.specs.Meaning.{literalBody, literalRadix, literalScan, num, den, rawOf, readScan, textLimit, isRadix, readOf, literalOf}
+use Rattle.text.specs.Accepted.{Ends, ends-at, ends-not, plain-ends, literal-ends, ends-sound, radix-two, prefix-radix, sound-base}
+use Rattle.text.specs.Rounding.{den-pos, ByRadix, upward, downward, same-place}
+use Rattle.text.specs.Appended.{zeros, zeros-same, minus-zeros, body-zeros, prefix-zeros, after-zeros}
+use Rattle.text.specs.Literals.{plainText, plain-length, literal-bare, Opens, literal-scan-plain, taken-opens}
 
 -- ---- taken texts
 
@@ -117,8 +76,8 @@ unsigned-iff : (w m : ℕ) (neg : Bool) {A : Type 0} → neg ≡ true → (A ↔
 unsigned-iff w m neg t e = let e′ = rw t at e in (λ a z. e′ .0 a (minus-fits w m .1 z), λ h. e′ .1 (λ r. h (minus-fits w m .0 r)))
 
 -- ---- Nearest, ties to even. Let m be the whole number nearest to |t| x 2^F: |m x den - num x 2^F| is at most half of den, and m is even at a tie
--- (`Nearest` of laws). There is one (`rounded`); nothing else is (`nearest-unique`); a reader that takes the text answers with it, the sign applied,
--- with the flag clear, if that fits, and strict refuses with 10 exactly if it does not.
+-- (`Nearest` of laws). A reader that takes the text answers with m, the sign applied and the flag clear, if that fits; strict refuses with 10 exactly
+-- if it does not.
 -- "Unsigned and negative: overflow exactly if that rounded magnitude is not 0."
 module _ {w f radix : ℕ} {t : List ℕ} {x : Written} (taken : Taken w f radix t x) where
   pub den-positive : 0 < den radix x
@@ -130,11 +89,16 @@ module _ {w f radix : ℕ} {t : List ℕ} {x : Written} (taken : Taken w f radix
   unfolding readOf readScan
   read-as k s = unless-none (faultOf w f) _ (taken .format) ∙ rw (taken .legal, le-leb (length t) textLimit (taken .short), taken .scanned)
 
+  -- there is one
   pub rounded : Nearest (num radix x * 2 ^ f) (den radix x) (rawOf radix f x)
   unfolding rawOf
   rounded = nearest (num radix x * 2 ^ f) (den radix x) den-positive
 
   module _ (m : ℕ) (near : Nearest (num radix x * 2 ^ f) (den radix x) m) where
+    -- and nothing else is
+    pub rounded-only : m ≡ rawOf radix f x
+    rounded-only = nearest-unique _ _ m _ den-positive near rounded
+
     pub read-nearest : (k : Manner) (s : Sign) → InRange s w (withSign (x .neg) m) → readOf k s w f radix t ≡ done (withSign (x .neg) m) false
     read-nearest k s = fits-done s w f radix x (some-width w f (taken .format)) den-positive m near k (read-as k s)
 
@@ -160,6 +124,9 @@ module _ {s : Sign} {w f : ℕ} {t : List ℕ} {x : Written} (taken : TakenLiter
   literal-rounded = nearest _ _ literal-den-positive
 
   module _ (m : ℕ) (near : Nearest (num (literalRadix s t) x * 2 ^ f) (den (literalRadix s t) x) m) where
+    pub literal-rounded-only : m ≡ rawOf (literalRadix s t) f x
+    literal-rounded-only = nearest-unique _ _ m _ literal-den-positive near literal-rounded
+
     pub literal-nearest : InRange s w (withSign (x .neg) m) → literalOf s w f t ≡ done (withSign (x .neg) m) false
     literal-nearest = fits-done s w f (literalRadix s t) x (some-width w f (taken .format)) literal-den-positive m near Strict literal-as
 
@@ -225,47 +192,6 @@ literal-early s w f t n h =
     rw (prefix-radix (literalBody s t)) at e
 
 -- ---- Zeros after the point change nothing: a text that ends in its fraction reads the same with any number of `0` after it.
-pub scan-refuse : (k : Sep) (radix : ℕ) (t : List ℕ) (n : ℕ) → scan k radix t (refuse n) ≡ refuse n
-unfolding scan
-scan-refuse k radix [] n = refl
-scan-refuse k radix (b ∷ t) n = refl
-
-pub scan-append : (k : Sep) (radix : ℕ) (t u : List ℕ) (r : Scan) → scan k radix (t ++ u) r ≡ scan k radix u (scan k radix t r)
-unfolding scan
-scan-append k radix [] u r = refl
-scan-append k radix (b ∷ t) u (refuse n) = sym (scan-refuse k radix u n)
-scan-append k radix (b ∷ t) u (at p q x) = scan-append k radix t u (step k radix b p q x)
-
-abbrev pub zeros : ℕ → List ℕ
-zeros n = replicate n 48
-
-module _ (j : Sep) (radix : ℕ) (r : 0 < radix) where
-  zero-step : (q : Seen) (x : Written) → step j radix 48 fraction q x ≡ at fraction digit (withDigit x 0 1)
-  unfolding step onOther isMark digitOf
-  zero-step q x = rw (lt-ltb 0 radix r)
-
-  zeros-read : (k : Manner) (s : Sign) (w f n : ℕ) (q : Seen) (x : Written) → 0 < x .base → (length (x .digits) ≡ 0 → ⊥)
-      → readScan k s w f radix (finish (scan j radix (zeros n) (at fraction q x))) ≡ settle k s w (withSign (x .neg) (rawOf radix f x))
-  unfolding scan finish ended readScan
-  zeros-read k s w f zero q x b d = rw (ne-eqb (length (x .digits)) 0 d)
-  zeros-read k s w f (suc n) q x b d =
-      ap (λ (y : Scan). readScan k s w f radix (finish (scan j radix (zeros n) y))) (zero-step q x)
-      ∙ zeros-read k s w f n digit (withDigit x 0 1) b (λ e. omega (arith, length-append (x .digits) (0 ∷ [])))
-      ∙ ap (λ (m : ℕ). settle k s w (withSign (x .neg) m)) (zero-more radix f x r b)
-
-  -- with r what was scanned of the text
-  zeros-same : (k : Manner) (s : Sign) (w f n : ℕ) (q : Seen) (x : Written) (t : List ℕ) (start : Scan) → Ends radix (finish (scan j radix t start))
-      → finish (scan j radix t start) ≡ at fraction q x
-      → readScan k s w f radix (finish (scan j radix (t ++ zeros n) start)) ≡ readScan k s w f radix (finish (scan j radix t start))
-  unfolding readScan
-  zeros-same k s w f n q x t start h e =
-      let before = finish-at (scan j radix t start) e in
-      let base = sound-base r (ends-sound (subst (Ends radix) e h)) in
-      ap (λ (y : Scan). readScan k s w f radix (finish y)) (scan-append j radix t (zeros n) start)
-      ∙ ap (λ (y : Scan). readScan k s w f radix (finish (scan j radix (zeros n) y))) (before .0)
-      ∙ zeros-read k s w f n q x base (eqb-false (length (x .digits)) 0 (before .1))
-      ∙ sym (ap (readScan k s w f radix) e)
-
 pub read-zeros : (k : Manner) (s : Sign) (w f radix : ℕ) (t : List ℕ) (n : ℕ) {q : Seen} {x : Written}
     → plainScan radix t ≡ at fraction q x → length t + n ≤ textLimit → readOf k s w f radix (t ++ zeros n) ≡ readOf k s w f radix t
 unfolding readOf plainScan
@@ -284,59 +210,6 @@ read-zeros k s w f radix t n {q} {x} e h = go (isRadix radix) refl
     go true l =
         let r = radix-two radix l in
         rw (short, long) (ap (unless (faultOf w f)) (zeros-same Error radix (omega arith) k s w f n q x t (at whole nothing (blank false)) (plain-ends radix t) e))
-
--- zeros at the end change nothing in front: the sign, the prefix and the `_` after it
-minus-zeros : (s : Sign) (t : List ℕ) (n : ℕ) → literalMinus s (t ++ zeros n) ≡ literalMinus s t
-unfolding literalMinus
-minus-zeros s [] zero = refl
-minus-zeros signed [] (suc n) = refl
-minus-zeros unsigned [] (suc n) = refl
-minus-zeros signed (b ∷ t) n = refl
-minus-zeros unsigned (b ∷ t) n = refl
-
-body-zeros : (s : Sign) (t : List ℕ) (n : ℕ) → literalBody s (t ++ zeros n) ≡ literalBody s t ++ zeros n
-unfolding literalMinus
-body-zeros s [] n = rw (minus-zeros s [] n)
-body-zeros signed (b ∷ t) n = go (eqb b 45)
-  where
-    go : (m : Bool) → cond m (t ++ zeros n) (b ∷ t ++ zeros n) ≡ cond m t (b ∷ t) ++ zeros n
-    go true = refl
-    go false = refl
-body-zeros unsigned (b ∷ t) n = refl
-
-prefix-zeros : (t : List ℕ) (n : ℕ) → prefixRadix (t ++ zeros n) ≡ prefixRadix t
-unfolding prefixRadix prefixMark
-prefix-zeros [] zero = refl
-prefix-zeros [] (suc zero) = refl
-prefix-zeros [] (suc (suc n)) = refl
-prefix-zeros (a ∷ []) zero = refl
-prefix-zeros (a ∷ []) (suc n) = go (eqb a 48)
-  where
-    go : (m : Bool) → _≡_ {A = ℕ} (cond m 10 10) 10
-    go true = refl
-    go false = refl
-prefix-zeros (a ∷ b ∷ t) n = refl
-
-underscores-zeros : (t : List ℕ) (n : ℕ) → dropUnderscores (t ++ zeros n) ≡ dropUnderscores t ++ zeros n
-unfolding dropUnderscores
-underscores-zeros [] zero = refl
-underscores-zeros [] (suc n) = refl
-underscores-zeros (b ∷ t) n = go (eqb b 95) (underscores-zeros t n)
-  where
-    go : (m : Bool) → dropUnderscores (t ++ zeros n) ≡ dropUnderscores t ++ zeros n
-        → cond m (dropUnderscores (t ++ zeros n)) (b ∷ t ++ zeros n) ≡ cond m (dropUnderscores t) (b ∷ t) ++ zeros n
-    go true e = e
-    go false e = refl
-
-after-zeros : (t : List ℕ) (n : ℕ) → afterPrefix (t ++ zeros n) ≡ afterPrefix t ++ zeros n
-unfolding prefixRadix
-after-zeros [] n = rw (prefix-zeros [] n)
-after-zeros (a ∷ []) n = rw (prefix-zeros (a ∷ []) n)
-after-zeros (a ∷ b ∷ t) n = go (eqb (prefixRadix (a ∷ b ∷ t)) 10)
-  where
-    go : (m : Bool) → cond m (a ∷ b ∷ t ++ zeros n) (dropUnderscores (t ++ zeros n)) ≡ cond m (a ∷ b ∷ t) (dropUnderscores t) ++ zeros n
-    go true = refl
-    go false = underscores-zeros t n
 
 pub literal-zeros : (s : Sign) (w f : ℕ) (t : List ℕ) (n : ℕ) {q : Seen} {x : Written}
     → literalScan s t ≡ at fraction q x → length t + n ≤ textLimit → literalOf s w f (t ++ zeros n) ≡ literalOf s w f t
@@ -372,102 +245,28 @@ module _ (radix f : ℕ) (some : 0 < radix) (neg : Bool) (ds : List ℕ) (after 
   pub point-down : rawOf radix f (written (after + 1) true e) ≡ rawOf radix f (written after true (e + 1))
   point-down = same-place radix f (written (after + 1) true e) (written after true (e + 1)) some (inl refl) (inl refl) refl (omega arith)
 
--- ---- A plain text reads the same as a literal. It has no `_` (95) and no prefix, and starts with no sign but a `-` that the literal takes.
-step-sep : (radix b : ℕ) (p : Part) (q : Seen) (x : Written) → (95 ≡ b → ⊥) → step Skip radix b p q x ≡ step Error radix b p q x
-unfolding step
-step-sep radix b p q x h = rw (ne-eqb b 95 (λ e. h (sym e)))
-
-scan-sep : (radix : ℕ) (t : List ℕ) (r : Scan) → (List·Memᴰ 95 t → ⊥) → scan Skip radix t r ≡ scan Error radix t r
-unfolding scan
-scan-sep radix [] r h = refl
-scan-sep radix (b ∷ t) (refuse n) h = refl
-scan-sep radix (b ∷ t) (at p q x) h =
-    ap (scan Skip radix t) (step-sep radix b p q x (λ e. h (List·Memᴰ·head e))) ∙ scan-sep radix t (step Error radix b p q x) (λ m. h (List·Memᴰ·tail m))
-
--- with no sign in front it does not matter whether one was read
-step-unsigned : (radix b : ℕ) (x : Written) → isSign b ≡ false → step Error radix b whole sign x ≡ step Error radix b whole nothing x
-unfolding step onUnderscore
-step-unsigned radix b x h = rw h
-
-scan-unsigned : (radix : ℕ) (t : List ℕ) (neg : Bool) → isSign (getD t 0 0) ≡ false
-    → finish (scan Error radix t (at whole sign (blank neg))) ≡ finish (scan Error radix t (at whole nothing (blank neg)))
-unfolding scan finish
-scan-unsigned radix [] neg h = refl
-scan-unsigned radix (b ∷ t) neg h = ap (λ (y : Scan). finish (scan Error radix t y)) (step-unsigned radix b (blank neg) h)
-
--- a sign in front of what the literal reads as a body is misplaced
-step-misplaced : (k : Sep) (radix b : ℕ) (x : Written) → isSign b ≡ true → step k radix b whole sign x ≡ refuse 12
-unfolding step onSign
-step-misplaced k radix b x h = rw h
-
-abbrev body-scan : Sep → List ℕ → Bool → Scan
-body-scan k t neg = finish (scan k 10 t (at whole sign (blank neg)))
-
-misplaced : (k : Sep) (t : List ℕ) (neg : Bool) → isSign (getD t 0 0) ≡ true → body-scan k t neg ≡ refuse 12
-unfolding scan finish
-misplaced k [] neg h = absurd (false≢true h)
-misplaced k (b ∷ t) neg h = ap (λ (y : Scan). finish (scan k 10 t y)) (step-misplaced k 10 b (blank neg) h) ∙ ap finish (scan-refuse k 10 t 12)
-
--- How a literal may start so that the plain reader takes its start too.
-abbrev pub Opens : Sign → List ℕ → Type 0
-Opens s t = (literalMinus s t ≡ true) ⊎ (isSign (getD t 0 0) ≡ false)
-
--- without a prefix the body is all that stands after the sign
-literal-body : (s : Sign) (t : List ℕ) → literalRadix s t ≡ 10 → literalScan s t ≡ body-scan Skip (literalBody s t) (literalMinus s t)
-unfolding literalScan
-literal-body s t e = rw e
-
-or-right : (a b : Bool) → (a || b) ≡ false → b ≡ false
-or-right true b h = absurd (true≢false h)
-or-right false b h = h
-
-no-minus : (s : Sign) (t : List ℕ) → isSign (getD t 0 0) ≡ false → literalMinus s t ≡ false
-unfolding literalMinus
-no-minus s [] h = refl
-no-minus signed (b ∷ t) h = or-right (eqb b 43) (eqb b 45) h
-no-minus unsigned (b ∷ t) h = refl
-
-body-free : (s : Sign) (t : List ℕ) → (List·Memᴰ 95 t → ⊥) → List·Memᴰ 95 (literalBody s t) → ⊥
-unfolding literalMinus
-body-free s [] h = h
-body-free signed (b ∷ t) h = go (eqb b 45)
-  where
-    go : (m : Bool) → List·Memᴰ 95 (cond m t (b ∷ t)) → ⊥
-    go true e = h (List·Memᴰ·tail e)
-    go false e = h e
-body-free unsigned (b ∷ t) h = h
-
-minus-scan : (s : Sign) (t : List ℕ) → literalMinus s t ≡ true → body-scan Error (literalBody s t) (literalMinus s t) ≡ plainScan 10 t
-unfolding literalMinus plainScan scan step onSign
-minus-scan s [] h = absurd (false≢true h)
-minus-scan signed (b ∷ t) h = rw (eqb-true b 45 h)
-minus-scan unsigned (b ∷ t) h = absurd (false≢true h)
-
+-- ---- Plain and literal. A text with no `_` (95) and no prefix, that starts with no sign or with a `-` that the literal takes, reads the same as both,
+-- refusals included. Where the literal reader takes the text, it starts so.
 module _ (s : Sign) (t : List ℕ) (plain : List·Memᴰ 95 t → ⊥) (ten : literalRadix s t ≡ 10) where
-  pub literal-scan-plain : Opens s t → literalScan s t ≡ plainScan 10 t
-  unfolding plainScan
-  literal-scan-plain o =
-      literal-body s t ten ∙ ap finish (scan-sep 10 (literalBody s t) (at whole sign (blank (literalMinus s t))) (body-free s t plain)) ∙ go o
-    where
-      go : Opens s t → body-scan Error (literalBody s t) (literalMinus s t) ≡ plainScan 10 t
-      go (inl h) = minus-scan s t h
-      go (inr h) = rw (no-minus s t h) (scan-unsigned 10 t false h)
-
   pub literal-plain : Opens s t → (w f : ℕ) → literalOf s w f t ≡ readOf Strict s w f 10 t
   unfolding literalOf readOf isRadix
-  literal-plain o w f = rw (ten, literal-scan-plain o)
-
-  -- where the literal reader takes the text it starts so
-  pub taken-opens : {p : Part} {q : Seen} {x : Written} → literalScan s t ≡ at p q x → Opens s t
-  taken-opens {p} {q} {x} e = go (literalMinus s t) refl (isSign (getD t 0 0)) refl (sym (literal-body s t ten) ∙ e)
-    where
-      go : (m : Bool) → literalMinus s t ≡ m → (g : Bool) → isSign (getD t 0 0) ≡ g → body-scan Skip (literalBody s t) (literalMinus s t) ≡ at p q x → Opens s t
-      go true a g b e = inl a
-      go false a false b e = inr b
-      go false a true b e =
-          let z : at p q x ≡ refuse 12 = sym (rw a at e) ∙ misplaced Skip t false b in
-          let no : _≡_ {A = ℕ} 0 1 = cc in
-          absurd (omega arith)
+  literal-plain o w f = rw (ten, literal-scan-plain s t plain ten o)
 
   pub literal-as-plain : {w f : ℕ} {x : Written} → TakenLiteral s w f t x → literalOf s w f t ≡ readOf Strict s w f 10 t
-  literal-as-plain {w} {f} taken = literal-plain (taken-opens (taken .scanned)) w f
+  literal-as-plain {w} {f} taken = literal-plain (taken-opens s t plain ten (taken .scanned)) w f
+
+-- With prefix and `_`: a literal that is taken reads as its sign and its body, without the prefix and every `_`, in the prefix's radix.
+module _ {s : Sign} {w f : ℕ} {t : List ℕ} {x : Written} (taken : TakenLiteral s w f t x) where
+  pub literal-taken : Taken w f (literalRadix s t) (plainText s t) x
+  literal-taken =
+      record {
+        format = taken .format;
+        legal = prefix-radix (literalBody s t);
+        short = omega (arith, taken .short, plain-length s t);
+        part = taken .part;
+        seen = taken .seen;
+        scanned = literal-bare s t (taken .scanned);
+      }
+
+  pub literal-reads : literalOf s w f t ≡ readOf Strict s w f (literalRadix s t) (plainText s t)
+  literal-reads = literal-as taken ∙ sym (read-as literal-taken Strict s)
