@@ -157,6 +157,7 @@ ruled-out =
     ∷ strict 10 i8f0 "2.50000000000000000000000000000000000000000" gives raw 2
     ∷ strict 10 i8f0 "2.500000000000000000000000000000000000000001" gives raw 3
     ∷ strict 10 i4f4 "0.0312500000000000000000000000000000000000000001" gives raw 1
+    ∷ literal u32f32 "0.000000000116415321826934814453125" gives raw 0
     ∷ literal u32f32 "0.0000000001164153218269348144531250000000000000000000000000000000000000000001" gives raw 1
     -- W = F: up to 1 is an overflow
     ∷ strict 10 u0f8 "0.998" gives raw 255
@@ -286,7 +287,23 @@ telling-literals-right : Right telling-literals
 unfolding telling-literals got
 telling-literals-right = refl
 
--- ---- the numbers of these that are too large to be written out: the scan is computed, and the answer follows from how far the exponent goes
+-- ---- texts that read alike: the point and the exponent, zeros at the end, a literal and the plain text that it stands for
+alike : List Case
+alike =
+    strict 10 i8f8 "12.75" gives raw 3264
+    ∷ strict 10 i8f8 "1275e-2" gives raw 3264
+    ∷ strict 10 i8f8 "0.1275e+2" gives raw 3264
+    ∷ strict 10 i8f8 "12.750000" gives raw 3264
+    ∷ literal i8f8 "12.75" gives raw 3264
+    ∷ literal i8f8 "0x__C_.c_" gives raw 3264
+    ∷ strict 16 i8f8 "C.c" gives raw 3264
+    ∷ []
+
+alike-right : Right alike
+unfolding alike got
+alike-right = refl
+
+-- ---- Telling texts whose numbers are not to be written out: the scan is computed, and the answer follows from how far the exponent goes.
 abbrev far : ℕ → Bool → ℕ → Written
 far d down e = record { neg = false; digits = d ∷ []; after = 0; base = 10; down = down; exp = e }
 

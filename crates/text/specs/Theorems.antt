@@ -1,10 +1,10 @@
 -- What is proved of the meaning of a text.
---   nearest         read-nearest, read-over, read-minus, and of literals: a text that is taken gives the multiple of the step nearest to what is
---                   written, ties to even, if that fits, and overflow exactly if it does not
---   refusals        read-early, literal-early: 1, 2, 3, 4 in this order, each exactly by its condition
---   zeros           read-zeros, literal-zeros: `0` appended after the point change nothing
---   the point       read-point, point-up, point-down: where it stands does not matter if the exponent makes up for it
+--   nearest         read-nearest, read-over, read-flag, read-minus, and of literals: a text that is taken gives the multiple of the step nearest to
+--                   what is written, ties to even, if that fits, and overflow exactly if it does not
 --   plain, literal  literal-plain, literal-as-plain, literal-reads: a literal reads as the plain text that it stands for
+--   refusals        read-early, literal-early: 1, 2, 3, 4 in this order, each exactly by its condition
+--   zeros           read-zeros, literal-zeros: every `0` appended after the point changes nothing
+--   the point       read-point, point-up, point-down: where it stands does not matter if the exponent makes up for it
 -- Assumes nothing.
 use mathlib.Core.Path.{_≡_, refl, sym, ap, _∙_, subst}
 use mathlib.Core.Logic.{inl, _↔_}
@@ -19,8 +19,8 @@ use borrow.Author.Tests.{le-leb, lt-leb, leb-true, leb-false}
 use Rattle.laws.specs.Nearest.{Nearest, nearest, nearest-unique}
 use Rattle.format.specs.declared.Manner.{Manner}
 use Rattle.format.specs.declared.Manner.the-variants.{Strict, Saturating, Wrapping, Overflowing}
-use Rattle.format.specs.Meaning.{Sign, unsigned, Outcome, done, refused, isWidth, faultOf, unless, fits, settle, withSign}
-use Rattle.format.specs.Theorems.{InRange, limit, in-fits, settle-fits, strict-refuses}
+use Rattle.format.specs.Meaning.{Sign, unsigned, Outcome, done, refused, isWidth, faultOf, unless, fits, wrap, settle, withSign}
+use Rattle.format.specs.Theorems.{InRange, limit, in-fits, settle-fits, strict-refuses, flag-set}
 use Rattle.format.specs.Fault.{fault-free, width-bounds}
 use Rattle.format.specs.Settle.{unless-none}
 use Rattle.format.specs.Place.{within, fits-place}
@@ -31,8 +31,6 @@ use Rattle.text.specs.Accepted.{Ends, ends-at, ends-not, plain-ends, lit
 use Rattle.text.specs.Rounding.{den-pos, ByRadix, upward, downward, same-place}
 use Rattle.text.specs.Appended.{zeros, zeros-same, minus-zeros, body-zeros, prefix-zeros, after-zeros}
 use Rattle.text.specs.Literals.{plainText, plain-length, literal-bare, Opens, literal-scan-plain, taken-opens}
-
--- ---- taken texts
 
 -- The plain reader takes t for the number x: no refusal applies to the format, the radix and the length, and the scan ends with x.
 pub record Taken (w f radix : ℕ) (t : List ℕ) (x : Written) : Type 0 where
@@ -54,18 +52,6 @@ pub record TakenLiteral (s : Sign) (w f : ℕ) (t : List ℕ) (x : Written) : Ty
 some-width : (w f : ℕ) → faultOf w f ≡ 0 → 0 < w
 some-width w f h = omega (arith, width-bounds w (fault-free w f h .0))
 
--- the sign and the magnitude m of a number settled: what fits is done, what does not is refused in the strict manner
-module _ (s : Sign) (w f radix : ℕ) (x : Written) (some : 0 < w) (deep : 0 < den radix x) (m : ℕ) (near : Nearest (num radix x * 2 ^ f) (den radix x) m) where
-  only : rawOf radix f x ≡ m
-  unfolding rawOf
-  only = nearest-unique _ _ _ m deep (nearest (num radix x * 2 ^ f) (den radix x) deep) near
-
-  fits-done : {o : Outcome} (k : Manner) → o ≡ settle k s w (withSign (x .neg) (rawOf radix f x)) → InRange s w (withSign (x .neg) m) → o ≡ done (withSign (x .neg) m) false
-  fits-done k e h = e ∙ rw only (settle-fits s w (withSign (x .neg) m) k some h)
-
-  over-iff : {o : Outcome} → o ≡ settle Strict s w (withSign (x .neg) (rawOf radix f x)) → (o ≡ refused 10) ↔ (InRange s w (withSign (x .neg) m) → ⊥)
-  over-iff e = rw (e, only) (strict-refuses s w (withSign (x .neg) m))
-
 -- a number below 0 is in an unsigned range only if it is 0
 minus-fits : (w m : ℕ) → InRange unsigned w (withSign true m) ↔ (m ≡ 0)
 unfolding limit
@@ -76,9 +62,8 @@ unsigned-iff : (w m : ℕ) (neg : Bool) {A : Type 0} → neg ≡ true → (A ↔
 unsigned-iff w m neg t e = let e′ = rw t at e in (λ a z. e′ .0 a (minus-fits w m .1 z), λ h. e′ .1 (λ r. h (minus-fits w m .0 r)))
 
 -- ---- Nearest, ties to even. Let m be the whole number nearest to |t| x 2^F: |m x den - num x 2^F| is at most half of den, and m is even at a tie
--- (`Nearest` of laws). A reader that takes the text answers with m, the sign applied and the flag clear, if that fits; strict refuses with 10 exactly
--- if it does not.
--- "Unsigned and negative: overflow exactly if that rounded magnitude is not 0."
+-- (`Nearest` of laws). A reader that takes the text answers with m, the sign applied and the flag clear, if that fits; strict refuses with 10, and
+-- overflowing sets the flag, exactly if it does not. "Unsigned and negative: overflow exactly if that rounded magnitude is not 0."
 module _ {w f radix : ℕ} {t : List ℕ} {x : Written} (taken : Taken w f radix t x) where
   pub den-positive : 0 < den radix x
   den-positive =
@@ -96,42 +81,55 @@ module _ {w f radix : ℕ} {t : List ℕ} {x : Written} (taken : Taken w f radix
 
   module _ (m : ℕ) (near : Nearest (num radix x * 2 ^ f) (den radix x) m) where
     -- and nothing else is
-    pub rounded-only : m ≡ rawOf radix f x
-    rounded-only = nearest-unique _ _ m _ den-positive near rounded
+    pub rounded-only : rawOf radix f x ≡ m
+    rounded-only = nearest-unique _ _ _ m den-positive rounded near
 
     pub read-nearest : (k : Manner) (s : Sign) → InRange s w (withSign (x .neg) m) → readOf k s w f radix t ≡ done (withSign (x .neg) m) false
-    read-nearest k s = fits-done s w f radix x (some-width w f (taken .format)) den-positive m near k (read-as k s)
+    read-nearest k s h = read-as k s ∙ rw rounded-only (settle-fits s w (withSign (x .neg) m) k (some-width w f (taken .format)) h)
 
     pub read-over : (s : Sign) → (readOf Strict s w f radix t ≡ refused 10) ↔ (InRange s w (withSign (x .neg) m) → ⊥)
-    read-over s = over-iff s w f radix x (some-width w f (taken .format)) den-positive m near (read-as Strict s)
+    read-over s = rw (read-as Strict s, rounded-only) (strict-refuses s w (withSign (x .neg) m))
+
+    pub read-flag : (s : Sign) → (readOf Overflowing s w f radix t ≡ done (wrap s w (withSign (x .neg) m)) true) ↔ (InRange s w (withSign (x .neg) m) → ⊥)
+    read-flag s = rw (read-as Overflowing s, rounded-only) (flag-set s w (withSign (x .neg) m))
 
     pub read-minus : x .neg ≡ true → (readOf Strict unsigned w f radix t ≡ refused 10) ↔ (m ≡ 0 → ⊥)
     read-minus n = unsigned-iff w m (x .neg) n (read-over unsigned)
 
--- the same of literals
+-- ---- Plain and literal. A text with no `_` (95) and no prefix, that starts with no sign or with a `-` that the literal takes, reads the same as both,
+-- refusals included. Where the literal reader takes the text, it starts so.
+module _ (s : Sign) (t : List ℕ) (plain : List·Memᴰ 95 t → ⊥) (ten : literalRadix s t ≡ 10) where
+  pub literal-plain : Opens s t → (w f : ℕ) → literalOf s w f t ≡ readOf Strict s w f 10 t
+  unfolding literalOf readOf isRadix
+  literal-plain o w f = rw (ten, literal-scan-plain s t plain ten o)
+
+  pub literal-as-plain : {w f : ℕ} {x : Written} → TakenLiteral s w f t x → literalOf s w f t ≡ readOf Strict s w f 10 t
+  literal-as-plain {w} {f} taken = literal-plain (taken-opens s t plain ten (taken .scanned)) w f
+
+-- With prefix and `_`: a literal that is taken reads as its sign and its body, without the prefix and every `_`, in the prefix's radix. So what is
+-- proved above of plain texts holds of literals.
 module _ {s : Sign} {w f : ℕ} {t : List ℕ} {x : Written} (taken : TakenLiteral s w f t x) where
-  pub literal-den-positive : 0 < den (literalRadix s t) x
-  literal-den-positive =
-      let r = radix-two (literalRadix s t) (prefix-radix (literalBody s t)) in
-      den-pos (literalRadix s t) x (omega arith) (sound-base (omega arith) (ends-sound (subst (Ends (literalRadix s t)) (taken .scanned) (literal-ends s t))))
+  pub literal-taken : Taken w f (literalRadix s t) (plainText s t) x
+  literal-taken =
+      record {
+        format = taken .format;
+        legal = prefix-radix (literalBody s t);
+        short = omega (arith, taken .short, plain-length s t);
+        part = taken .part;
+        seen = taken .seen;
+        scanned = literal-bare s t (taken .scanned);
+      }
 
-  pub literal-as : literalOf s w f t ≡ settle Strict s w (withSign (x .neg) (rawOf (literalRadix s t) f x))
+  pub literal-reads : literalOf s w f t ≡ readOf Strict s w f (literalRadix s t) (plainText s t)
   unfolding literalOf readScan
-  literal-as = unless-none (faultOf w f) _ (taken .format) ∙ rw (le-leb (length t) textLimit (taken .short), taken .scanned)
-
-  pub literal-rounded : Nearest (num (literalRadix s t) x * 2 ^ f) (den (literalRadix s t) x) (rawOf (literalRadix s t) f x)
-  unfolding rawOf
-  literal-rounded = nearest _ _ literal-den-positive
+  literal-reads = unless-none (faultOf w f) _ (taken .format) ∙ rw (le-leb (length t) textLimit (taken .short), taken .scanned) (sym (read-as literal-taken Strict s))
 
   module _ (m : ℕ) (near : Nearest (num (literalRadix s t) x * 2 ^ f) (den (literalRadix s t) x) m) where
-    pub literal-rounded-only : m ≡ rawOf (literalRadix s t) f x
-    literal-rounded-only = nearest-unique _ _ m _ literal-den-positive near literal-rounded
-
     pub literal-nearest : InRange s w (withSign (x .neg) m) → literalOf s w f t ≡ done (withSign (x .neg) m) false
-    literal-nearest = fits-done s w f (literalRadix s t) x (some-width w f (taken .format)) literal-den-positive m near Strict literal-as
+    literal-nearest h = literal-reads ∙ read-nearest literal-taken m near Strict s h
 
     pub literal-over : (literalOf s w f t ≡ refused 10) ↔ (InRange s w (withSign (x .neg) m) → ⊥)
-    literal-over = over-iff s w f (literalRadix s t) x (some-width w f (taken .format)) literal-den-positive m near literal-as
+    literal-over = rw literal-reads (read-over literal-taken m near s)
 
 -- ---- The refusals before the text is read: 1, 2, 3, 4 in this order, each exactly if its condition holds and no earlier one's does.
 pub data Early (w f radix : ℕ) (t : List ℕ) : ℕ → Type 0 where
@@ -234,7 +232,7 @@ read-point k s {w} {f} {radix} {x = x} {y} a b h l neg digits places =
     ∙ ap (λ (m : ℕ). settle k s w (withSign (y .neg) m)) (same-place radix f x y (omega arith) h l digits places)
     ∙ sym (read-as b k s)
 
--- one place: a digit more after the point is an exponent one higher, or one less low
+-- one place more after the point: the exponent goes up by one more, or down by one less
 module _ (radix f : ℕ) (some : 0 < radix) (neg : Bool) (ds : List ℕ) (after e : ℕ) where
   abbrev pub written : ℕ → Bool → ℕ → Written
   written after down e = record { neg = neg; digits = ds; after = after; base = radix; down = down; exp = e }
@@ -244,29 +242,3 @@ module _ (radix f : ℕ) (some : 0 < radix) (neg : Bool) (ds : List ℕ) (after 
 
   pub point-down : rawOf radix f (written (after + 1) true e) ≡ rawOf radix f (written after true (e + 1))
   point-down = same-place radix f (written (after + 1) true e) (written after true (e + 1)) some (inl refl) (inl refl) refl (omega arith)
-
--- ---- Plain and literal. A text with no `_` (95) and no prefix, that starts with no sign or with a `-` that the literal takes, reads the same as both,
--- refusals included. Where the literal reader takes the text, it starts so.
-module _ (s : Sign) (t : List ℕ) (plain : List·Memᴰ 95 t → ⊥) (ten : literalRadix s t ≡ 10) where
-  pub literal-plain : Opens s t → (w f : ℕ) → literalOf s w f t ≡ readOf Strict s w f 10 t
-  unfolding literalOf readOf isRadix
-  literal-plain o w f = rw (ten, literal-scan-plain s t plain ten o)
-
-  pub literal-as-plain : {w f : ℕ} {x : Written} → TakenLiteral s w f t x → literalOf s w f t ≡ readOf Strict s w f 10 t
-  literal-as-plain {w} {f} taken = literal-plain (taken-opens s t plain ten (taken .scanned)) w f
-
--- With prefix and `_`: a literal that is taken reads as its sign and its body, without the prefix and every `_`, in the prefix's radix.
-module _ {s : Sign} {w f : ℕ} {t : List ℕ} {x : Written} (taken : TakenLiteral s w f t x) where
-  pub literal-taken : Taken w f (literalRadix s t) (plainText s t) x
-  literal-taken =
-      record {
-        format = taken .format;
-        legal = prefix-radix (literalBody s t);
-        short = omega (arith, taken .short, plain-length s t);
-        part = taken .part;
-        seen = taken .seen;
-        scanned = literal-bare s t (taken .scanned);
-      }
-
-  pub literal-reads : literalOf s w f t ≡ readOf Strict s w f (literalRadix s t) (plainText s t)
-  literal-reads = literal-as taken ∙ sym (read-as literal-taken Strict s)
