@@ -1,9 +1,9 @@
 -- Document 01's cases of reading, and docs/GRAMMAR.md's telling texts, computed from the meaning: a row is a format, a text and what it gives.
 -- A format is named as in document 01: i4f4 is signed, W = 8, F = 4. Assumes nothing.
 use mathlib.Core.Path.{_≡_, refl, _∙_}
-use mathlib.Core.Bool.{Bool, true, false}
-use mathlib.Core.List.{List, [], _∷_, map}
-use Prim.Native.Nat.{ℕ, _≤_}
+use mathlib.Core.Bool.{Bool, true, false, cond}
+use mathlib.Core.List.{List, [], _∷_, _++_, map}
+use Prim.Native.Nat.{ℕ, zero, suc, _+_, _≤_}
 use Prim.Native.String.{String}
 use lib.Dec.{lit≤}
 use lib.ListN.{length, replicate}
@@ -14,7 +14,7 @@ use Rattle.format.specs.declared.Manner.{Manner}
 use Rattle.format.specs.declared.Manner.the-variants.{Strict, Saturating, Wrapping, Overflowing}
 use Rattle.format.specs.Meaning.{Sign, signed, unsigned, Outcome, done, refused, isWidth, faultOf, lowest, highest, fits, hold, wrap, settle, unless}
 use Rattle.format.specs.Meaning.{withSign}
-use Rattle.text.specs.Meaning.{digitOf, isMark, onSign, onPoint, onUnderscore, onMark, onExpDigit, onOther, step, scan, ended, finish}
+use Rattle.text.specs.Meaning.{digitOf, isDigit, isSign, isMark, baseOf, onSign, onPoint, onUnderscore, onMark, onExpDigit, onOther, step, scan, ended, finish}
 use Rattle.text.specs.Meaning.{plainScan, prefixMark, prefixRadix, dropUnderscores, literalMinus, literalScan, natFrom, num, den, rawOf}
 use Rattle.text.specs.Meaning.{readScan, isRadix, readOf, literalOf, Written, exponent, digit, at}
 use Rattle.text.specs.Rounding.{huge-over, huge-wraps, huge-under, nothing-written}
@@ -196,6 +196,68 @@ faults =
 faults-right : Right faults
 unfolding faults got
 faults-right = refl
+
+-- ---- docs/GRAMMAR.md, "Classes of bytes": of all 256, which are of a class
+from : ℕ → ℕ → List ℕ
+from b zero = []
+from b (suc n) = b ∷ from (b + 1) n
+
+picked : (ℕ → Bool) → List ℕ → List ℕ
+picked class [] = []
+picked class (b ∷ t) = cond (class b) (b ∷ picked class t) (picked class t)
+
+abbrev Are : (ℕ → Bool) → String → Type 0
+Are class t = picked class (from 0 256) ≡ bytes t
+
+classes-right : Are isSign "+-"
+    × Are (isDigit 2) "01"
+    × Are (isDigit 8) "01234567"
+    × Are (isDigit 10) "0123456789"
+    × Are (isDigit 16) "0123456789ABCDEFabcdef"
+    × Are (isMark 2) "@EPep"
+    × Are (isMark 8) "@EPep"
+    × Are (isMark 10) "@Ee"
+    × Are (isMark 16) "@Pp"
+    × (map digitOf (bytes "0123456789abcdef") ≡ from 0 16)
+    × (map digitOf (bytes "ABCDEF") ≡ from 10 6)
+    × (map (baseOf 16) (bytes "@Pp") ≡ 16 ∷ 2 ∷ 2 ∷ [])
+    × (map (baseOf 8) (bytes "@EPep") ≡ 8 ∷ 8 ∷ 2 ∷ 8 ∷ 2 ∷ [])
+unfolding from picked got
+classes-right = (refl, refl, refl, refl, refl, refl, refl, refl, refl, refl, refl, refl, refl)
+
+-- ---- docs/GRAMMAR.md, "The automaton": a text for each state, and the answer when a sign, a point, `_`, a mark, a digit or another byte
+-- follows and the text ends there: 0 for a number
+number : Outcome → ℕ
+number (done x f) = 0
+number (refused n) = n
+
+answers : (List ℕ → Outcome) → String → List ℕ
+answers read t = map (λ (b : ℕ). number (read (bytes t ++ (b ∷ [])))) (bytes "+._e1x")
+
+abbrev plainAfter : String → List ℕ
+plainAfter = answers (readOf Strict signed 64 0 10)
+
+abbrev literalAfter : String → List ℕ
+literalAfter = answers (literalOf signed 64 0)
+
+automaton-right : (plainAfter "" ≡ 11 ∷ 11 ∷ 13 ∷ 11 ∷ 0 ∷ 13 ∷ [])
+    × (plainAfter "+" ≡ 12 ∷ 11 ∷ 13 ∷ 11 ∷ 0 ∷ 13 ∷ [])
+    × (plainAfter "1" ≡ 12 ∷ 0 ∷ 13 ∷ 17 ∷ 0 ∷ 13 ∷ [])
+    × (plainAfter "1." ≡ 12 ∷ 15 ∷ 13 ∷ 17 ∷ 0 ∷ 13 ∷ [])
+    × (plainAfter "1.2" ≡ 12 ∷ 15 ∷ 13 ∷ 17 ∷ 0 ∷ 13 ∷ [])
+    × (plainAfter "1e" ≡ 17 ∷ 16 ∷ 16 ∷ 18 ∷ 0 ∷ 16 ∷ [])
+    × (plainAfter "1e+" ≡ 12 ∷ 16 ∷ 16 ∷ 18 ∷ 0 ∷ 16 ∷ [])
+    × (plainAfter "1e1" ≡ 12 ∷ 16 ∷ 16 ∷ 18 ∷ 0 ∷ 16 ∷ [])
+    × (literalAfter "" ≡ 12 ∷ 11 ∷ 14 ∷ 11 ∷ 0 ∷ 13 ∷ [])
+    × (literalAfter "-" ≡ 12 ∷ 11 ∷ 14 ∷ 11 ∷ 0 ∷ 13 ∷ [])
+    × (literalAfter "1" ≡ 12 ∷ 0 ∷ 0 ∷ 17 ∷ 0 ∷ 13 ∷ [])
+    × (literalAfter "1." ≡ 12 ∷ 15 ∷ 14 ∷ 17 ∷ 0 ∷ 13 ∷ [])
+    × (literalAfter "1.2" ≡ 12 ∷ 15 ∷ 0 ∷ 17 ∷ 0 ∷ 13 ∷ [])
+    × (literalAfter "1e" ≡ 17 ∷ 16 ∷ 14 ∷ 18 ∷ 0 ∷ 16 ∷ [])
+    × (literalAfter "1e+" ≡ 12 ∷ 16 ∷ 14 ∷ 18 ∷ 0 ∷ 16 ∷ [])
+    × (literalAfter "1e1" ≡ 12 ∷ 16 ∷ 0 ∷ 18 ∷ 0 ∷ 16 ∷ [])
+unfolding number answers got
+automaton-right = (refl, refl, refl, refl, refl, refl, refl, refl, refl, refl, refl, refl, refl, refl, refl, refl)
 
 -- ---- docs/GRAMMAR.md, "Telling texts": the plain reader
 telling : List Case
