@@ -17,7 +17,7 @@ use Rattle.text.specs.Meaning.{onExpDigit, onOther, step, scan, ended, f
 use Rattle.text.specs.Meaning.{literalBody, literalRadix, literalScan, isRadix}
 
 -- the exponent: 0 until a digit of it was read, then within its range
-pub ExpIs : Part → Seen → Bool → ℕ → Type 0
+unfoldable pub ExpIs : Part → Seen → Bool → ℕ → Type 0
 ExpIs whole q down e = e ≡ 0
 ExpIs fraction q down e = e ≡ 0
 ExpIs exponent nothing down e = e ≡ 0
@@ -184,6 +184,17 @@ sound-base {radix} {p} {q} {x} h s = go (s .base-is)
     go (inl e) = omega arith
     go (inr (inl e)) = omega arith
     go (inr (inr e)) = omega arith
+
+pub sound-exp : {radix : ℕ} {p : Part} {q : Seen} {x : Written} → Sound radix p q x → x .exp ≤ expLimit (x .down)
+unfolding ExpIs
+sound-exp {radix} {p} {q} {x} s = go p q (s .exp-is)
+  where
+    go : (p : Part) (q : Seen) → ExpIs p q (x .down) (x .exp) → x .exp ≤ expLimit (x .down)
+    go whole q e = omega arith
+    go fraction q e = omega arith
+    go exponent nothing e = omega arith
+    go exponent sign e = omega arith
+    go exponent digit e = e
 
 -- ---- what is accepted at the end was there before it, and has a digit
 pub finish-at : (r : Scan) {p : Part} {q : Seen} {x : Written} → finish r ≡ at p q x → (r ≡ at p q x) × (eqb (length (x .digits)) 0 ≡ false)

@@ -4,7 +4,8 @@
 --   plain, literal  literal-plain, literal-as-plain, literal-reads: a literal reads as the plain text that it stands for
 --   refusals        read-early, literal-early: 1, 2, 3, 4 in this order, each exactly by its condition
 --   zeros           read-zeros, literal-zeros: every `0` appended after the point changes nothing
---   the point       read-point, point-up, point-down: where it stands does not matter if the exponent makes up for it
+--   the number      read-same: only the number written matters; read-point, point-up, point-down: not where the point stands, if the exponent
+--                   makes up for it
 -- Assumes nothing.
 use mathlib.Core.Path.{_≡_, refl, sym, ap, _∙_, subst}
 use mathlib.Core.Logic.{inl, _↔_}
@@ -27,8 +28,8 @@ use Rattle.format.specs.Place.{within, fits-place}
 use Rattle.text.specs.declared.Sep.the-variants.{Skip, Error}
 use Rattle.text.specs.Meaning.{Written, Part, whole, fraction, Seen, nothing, sign, Scan, at, blank, plainScan, afterPrefix, literalMinus}
 use Rattle.text.specs.Meaning.{literalBody, literalRadix, literalScan, num, den, rawOf, readScan, textLimit, isRadix, readOf, literalOf}
-use Rattle.text.specs.Accepted.{Ends, ends-at, ends-not, plain-ends, literal-ends, ends-sound, radix-two, prefix-radix, sound-base}
-use Rattle.text.specs.Rounding.{den-pos, ByRadix, upward, downward, same-place}
+use Rattle.text.specs.Accepted.{Sound, Ends, ends-at, ends-not, plain-ends, literal-ends, ends-sound, radix-two, prefix-radix, sound-base}
+use Rattle.text.specs.Rounding.{den-pos, same-fraction, ByRadix, upward, downward, same-place}
 use Rattle.text.specs.Appended.{zeros, zeros-same, minus-zeros, body-zeros, prefix-zeros, after-zeros}
 use Rattle.text.specs.Literals.{plainText, plain-length, literal-bare, Opens, literal-scan-plain, taken-opens}
 
@@ -65,10 +66,11 @@ unsigned-iff w m neg t e = let e′ = rw t at e in (λ a z. e′ .0 a (minus-fit
 -- (`Nearest` of laws). A reader that takes the text answers with m, the sign applied and the flag clear, if that fits; strict refuses with 10, and
 -- overflowing sets the flag, exactly if it does not. "Unsigned and negative: overflow exactly if that rounded magnitude is not 0."
 module _ {w f radix : ℕ} {t : List ℕ} {x : Written} (taken : Taken w f radix t x) where
+  pub taken-sound : Sound radix (taken .part) (taken .seen) x
+  taken-sound = ends-sound (subst (Ends radix) (taken .scanned) (plain-ends radix t))
+
   pub den-positive : 0 < den radix x
-  den-positive =
-      let r = radix-two radix (taken .legal) in
-      den-pos radix x (omega arith) (sound-base (omega arith) (ends-sound (subst (Ends radix) (taken .scanned) (plain-ends radix t))))
+  den-positive = let r = radix-two radix (taken .legal) in den-pos radix x (omega arith) (sound-base (omega arith) taken-sound)
 
   pub read-as : (k : Manner) (s : Sign) → readOf k s w f radix t ≡ settle k s w (withSign (x .neg) (rawOf radix f x))
   unfolding readOf readScan
@@ -220,17 +222,26 @@ literal-zeros s w f t n {q} {x} e h =
     let same = zeros-same Skip radix (omega arith) Strict s w f n q x (afterPrefix (literalBody s t)) (at whole sign (blank (literalMinus s t))) (literal-ends s t) e in
     rw (short, long) (ap (unless (faultOf w f)) (rw (body-zeros s t n, after-zeros (literalBody s t) n, prefix-zeros (literalBody s t) n, minus-zeros s t n) same))
 
--- ---- The number does not depend on where the point stands, if the exponent makes up for it: two texts with the same sign and digits, whose
--- exponents scale by the radix (or are 0), read the same if places after the point and exponent come to the same.
+-- ---- Only the number matters: two texts, of whatever radix, with the same sign and the same fraction read the same.
+module _ (k : Manner) (s : Sign) {w f r₁ r₂ : ℕ} {t u : List ℕ} {x y : Written} (a : Taken w f r₁ t x) (b : Taken w f r₂ u y) (neg : x .neg ≡ y .neg) where
+  same-raw : rawOf r₁ f x ≡ rawOf r₂ f y → readOf k s w f r₁ t ≡ readOf k s w f r₂ u
+  same-raw e =
+      read-as a k s
+      ∙ ap (λ (n : Bool). settle k s w (withSign n (rawOf r₁ f x))) neg
+      ∙ ap (λ (m : ℕ). settle k s w (withSign (y .neg) m)) e
+      ∙ sym (read-as b k s)
+
+  pub read-same : num r₁ x * den r₂ y ≡ num r₂ y * den r₁ x → readOf k s w f r₁ t ≡ readOf k s w f r₂ u
+  read-same e = same-raw (same-fraction r₁ r₂ f x y (den-positive a) (den-positive b) e)
+
+-- So it does not depend on where the point stands, if the exponent makes up for it: with the same digits, and exponents that scale by the radix (or
+-- are 0), two texts read the same if places after the point and exponent come to the same.
 pub read-point : (k : Manner) (s : Sign) {w f radix : ℕ} {t u : List ℕ} {x y : Written} → Taken w f radix t x → Taken w f radix u y
     → ByRadix radix x → ByRadix radix y → x .neg ≡ y .neg → x .digits ≡ y .digits → x .after + downward x + upward y ≡ y .after + downward y + upward x
     → readOf k s w f radix t ≡ readOf k s w f radix u
 read-point k s {w} {f} {radix} {x = x} {y} a b h l neg digits places =
     let r = radix-two radix (a .legal) in
-    read-as a k s
-    ∙ ap (λ (n : Bool). settle k s w (withSign n (rawOf radix f x))) neg
-    ∙ ap (λ (m : ℕ). settle k s w (withSign (y .neg) m)) (same-place radix f x y (omega arith) h l digits places)
-    ∙ sym (read-as b k s)
+    same-raw k s a b neg (same-place radix f x y (omega arith) h l digits places)
 
 -- one place more after the point: the exponent goes up by one more, or down by one less
 module _ (radix f : ℕ) (some : 0 < radix) (neg : Bool) (ds : List ℕ) (after e : ℕ) where
