@@ -9,9 +9,7 @@ use lib.Dec.{T, leb, eqb, leb→le}
 use lib.ListN.{length, length-append}
 use borrow.Author.Tests.{leb-true, ltb-true, eqb-true}
 use Rattle.format.specs.Meaning.{Sign}
-use Rattle.text.specs.declared.Sep.{Sep}
-use Rattle.text.specs.declared.Sep.the-variants.{Skip, Error}
-use Rattle.text.specs.Meaning.{digitOf, isDigit, isSign, isBitMark, isMark, baseOf, Written, Part, whole, fraction, exponent, Seen, nothing}
+use Rattle.text.specs.Meaning.{Sep, Skip, Error, digitOf, isDigit, isSign, isBitMark, isMark, baseOf, Written, Part, whole, fraction, exponent, Seen, nothing}
 use Rattle.text.specs.Meaning.{sign, digit, Scan, at, refuse, blank, withDigit, onSign, onPoint, invalid, onUnderscore, onMark, expLimit}
 use Rattle.text.specs.Meaning.{onExpDigit, onOther, step, scan, ended, finish, plainScan, prefixMark, prefixRadix, afterPrefix, literalMinus}
 use Rattle.text.specs.Meaning.{literalBody, literalRadix, literalScan, isRadix}

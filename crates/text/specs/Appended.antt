@@ -9,8 +9,7 @@ use lib.ListN.{length, length-append, replicate}
 use borrow.Author.Tests.{eqb-false, ne-eqb, lt-ltb}
 use Rattle.format.specs.declared.Manner.{Manner}
 use Rattle.format.specs.Meaning.{Sign, signed, unsigned, settle, withSign}
-use Rattle.text.specs.declared.Sep.{Sep}
-use Rattle.text.specs.Meaning.{digitOf, isMark, Written, fraction, Seen, digit, Scan, at, withDigit, onOther, step, scan, ended, finish}
+use Rattle.text.specs.Meaning.{Sep, digitOf, isMark, Written, fraction, Seen, digit, Scan, at, withDigit, onOther, step, scan, ended, finish}
 use Rattle.text.specs.Meaning.{prefixMark, prefixRadix, dropUnderscores, afterPrefix, literalMinus, literalBody, rawOf, readScan}
 use Rattle.text.specs.Accepted.{Ends, ends-sound, sound-base, finish-at, scan-append}
 use Rattle.text.specs.Rounding.{zero-more}

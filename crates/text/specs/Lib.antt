@@ -1,7 +1,11 @@
 pub mod Accepted
 pub mod Appended
 pub mod Cases
+pub mod Class
+pub mod Found
 pub mod Literals
 pub mod Meaning
+pub mod Reading
 pub mod Rounding
+pub mod Run
 pub mod Theorems

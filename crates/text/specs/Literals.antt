@@ -9,9 +9,7 @@ use lib.Dec.{eqb}
 use lib.ListN.{length, length-drop, drop, getD}
 use borrow.Author.Tests.{eqb-true, eqb-false, ne-eqb}
 use Rattle.format.specs.Meaning.{Sign, signed, unsigned}
-use Rattle.text.specs.declared.Sep.{Sep}
-use Rattle.text.specs.declared.Sep.the-variants.{Skip, Error}
-use Rattle.text.specs.Meaning.{isSign, Written, Part, whole, Seen, nothing, sign, digit, Scan, at, refuse, blank, onSign, onUnderscore, step}
+use Rattle.text.specs.Meaning.{Sep, Skip, Error, isSign, Written, Part, whole, Seen, nothing, sign, digit, Scan, at, refuse, blank, onSign, onUnderscore, step}
 use Rattle.text.specs.Meaning.{scan, finish, plainScan, prefixRadix, dropUnderscores, afterPrefix, literalMinus, literalBody, literalRadix}
 use Rattle.text.specs.Meaning.{literalScan}
 use Rattle.text.specs.Accepted.{finish-at, scan-refuse}

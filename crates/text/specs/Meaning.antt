@@ -9,8 +9,6 @@ use Rattle.laws.specs.Nearest.{nearestEven}
 use Rattle.format.specs.declared.Manner.{Manner}
 use Rattle.format.specs.declared.Manner.the-variants.{Strict}
 use Rattle.format.specs.Meaning.{Sign, signed, unsigned, Outcome, refused, unless, faultOf, settle, withSign}
-use Rattle.text.specs.declared.Sep.{Sep}
-use Rattle.text.specs.declared.Sep.the-variants.{Skip, Error}
 
 -- ---- bytes
 
@@ -50,6 +48,11 @@ pub record Written : Type 0 where
   pub base : ℕ
   pub down : Bool
   pub exp : ℕ
+
+-- what a reader makes of `_`: the literal reader skips it, the plain reader refuses it
+pub data Sep : Type 0 where
+  Skip : Sep
+  Error : Sep
 
 -- Where the scan stands: in which part of the number, and what was read of that part.
 pub data Part : Type 0 where

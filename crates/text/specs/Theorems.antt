@@ -25,8 +25,7 @@ use Rattle.format.specs.Theorems.{InRange, limit, in-fits, settle-fits, strict-
 use Rattle.format.specs.Fault.{fault-free, width-bounds}
 use Rattle.format.specs.Settle.{unless-none}
 use Rattle.format.specs.Place.{within, fits-place}
-use Rattle.text.specs.declared.Sep.the-variants.{Skip, Error}
-use Rattle.text.specs.Meaning.{Written, Part, whole, fraction, Seen, nothing, sign, Scan, at, blank, plainScan, afterPrefix, literalMinus}
+use Rattle.text.specs.Meaning.{Skip, Error, Written, Part, whole, fraction, Seen, nothing, sign, Scan, at, blank, plainScan, afterPrefix, literalMinus}
 use Rattle.text.specs.Meaning.{literalBody, literalRadix, literalScan, num, den, rawOf, readScan, textLimit, isRadix, readOf, literalOf}
 use Rattle.text.specs.Accepted.{Sound, Ends, ends-at, ends-not, plain-ends, literal-ends, ends-sound, radix-two, prefix-radix, sound-base}
 use Rattle.text.specs.Rounding.{den-pos, same-fraction, ByRadix, upward, downward, same-place}
