@@ -16,7 +16,7 @@ use Rattle.format.specs.Meaning.{Sign, signed, unsigned, Outcome, done, refused
 use Rattle.format.specs.Meaning.{withSign}
 use Rattle.text.specs.Meaning.{digitOf, isDigit, isSign, isMark, baseOf, onSign, onPoint, onUnderscore, onMark, onExpDigit, onOther, step, scan, ended, finish}
 use Rattle.text.specs.Meaning.{plainScan, prefixMark, prefixRadix, dropUnderscores, literalMinus, literalScan, natFrom, num, den, rawOf}
-use Rattle.text.specs.Meaning.{readScan, isRadix, readOf, literalOf, Written, exponent, digit, at}
+use Rattle.text.specs.Meaning.{readScan, isRadix, readOf, literalOf, Written, exponent, digit, at, textLimit}
 use Rattle.text.specs.Rounding.{huge-over, huge-wraps, huge-under, nothing-written}
 use Rattle.text.specs.Theorems.{Taken, read-as, den-positive}
 
@@ -178,18 +178,20 @@ ruled-out-right : Right ruled-out
 unfolding ruled-out got
 ruled-out-right = refl
 
--- ---- the refusals 1, 2, 3, 4 go in this order, and before those of the text
+-- ---- the refusals 1, 2, 3, 4 go in this order, and before those of the text (120 is `x`)
 faults : List Case
 faults =
     strict 3 (format signed 7 9) "x" gives refused 1
     ∷ strict 3 (format signed 8 9) "x" gives refused 2
     ∷ strict 3 (format signed 8 8) "x" gives refused 3
     ∷ strict 10 (format signed 8 8) "x" gives refused 13
-    ∷ readOf Strict signed 8 8 3 (replicate 4097 48) gives refused 3
-    ∷ readOf Strict signed 8 8 10 (replicate 4097 48) gives refused 4
+    ∷ readOf Strict signed 8 8 3 (replicate 4097 120) gives refused 3
+    ∷ readOf Strict signed 8 8 10 (replicate 4097 120) gives refused 4
+    ∷ readOf Strict signed 8 8 10 (replicate 4096 120) gives refused 13
     ∷ literal (format unsigned 7 9) "x" gives refused 1
     ∷ literal (format unsigned 8 9) "x" gives refused 2
-    ∷ literalOf unsigned 8 8 (replicate 4097 48) gives refused 4
+    ∷ literalOf unsigned 8 8 (replicate 4097 120) gives refused 4
+    ∷ literalOf unsigned 8 8 (replicate 4096 120) gives refused 13
     ∷ literal (format unsigned 8 8) "x" gives refused 13
     ∷ []
 
@@ -197,7 +199,7 @@ faults-right : Right faults
 unfolding faults got
 faults-right = refl
 
--- ---- docs/GRAMMAR.md, "Classes of bytes": of all 256, which are of a class
+-- ---- the radixes, and docs/GRAMMAR.md, "Classes of bytes": of all 256, which are of a class
 from : ℕ → ℕ → List ℕ
 from b zero = []
 from b (suc n) = b ∷ from (b + 1) n
@@ -209,7 +211,8 @@ picked class (b ∷ t) = cond (class b) (b ∷ picked class t) (picked class t)
 abbrev Are : (ℕ → Bool) → String → Type 0
 Are class t = picked class (from 0 256) ≡ bytes t
 
-classes-right : Are isSign "+-"
+classes-right : (picked isRadix (from 0 256) ≡ 2 ∷ 8 ∷ 10 ∷ 16 ∷ [])
+    × Are isSign "+-"
     × Are (isDigit 2) "01"
     × Are (isDigit 8) "01234567"
     × Are (isDigit 10) "0123456789"
@@ -223,7 +226,7 @@ classes-right : Are isSign "+-"
     × (map (baseOf 16) (bytes "@Pp") ≡ 16 ∷ 2 ∷ 2 ∷ [])
     × (map (baseOf 8) (bytes "@EPep") ≡ 8 ∷ 8 ∷ 2 ∷ 8 ∷ 2 ∷ [])
 unfolding from picked got
-classes-right = (refl, refl, refl, refl, refl, refl, refl, refl, refl, refl, refl, refl, refl)
+classes-right = (refl, refl, refl, refl, refl, refl, refl, refl, refl, refl, refl, refl, refl, refl)
 
 -- ---- docs/GRAMMAR.md, "The automaton": a text for each state, and the answer when a sign, a point, `_`, a mark, a digit or another byte
 -- follows and the text ends there: 0 for a number
@@ -369,7 +372,7 @@ alike-right = refl
 abbrev far : ℕ → Bool → ℕ → Written
 far d down e = record { neg = false; digits = d ∷ []; after = 0; base = 10; down = down; exp = e }
 
-taken : (t : String) (x : Written) → length (bytes t) ≤ 4096 → plainScan 10 (bytes t) ≡ at exponent digit x → Taken 8 4 10 (bytes t) x
+taken : (t : String) (x : Written) → length (bytes t) ≤ textLimit → plainScan 10 (bytes t) ≡ at exponent digit x → Taken 8 4 10 (bytes t) x
 unfolding faultOf isWidth isRadix
 taken t x h e = record { format = refl; legal = refl; short = h; part = exponent; seen = digit; scanned = e }
 
