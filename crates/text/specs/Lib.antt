@@ -1,7 +1,13 @@
+pub mod Accepted
+pub mod Appended
+pub mod Cases
 pub mod Class
 pub mod Found
 pub mod Literal
+pub mod Literals
 pub mod Meaning
 pub mod Parts
 pub mod Reading
+pub mod Rounding
 pub mod Run
+pub mod Theorems
