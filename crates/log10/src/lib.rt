@@ -1,0 +1,44 @@
+// The logarithm of document 01, module 3: the greatest k with 10^k <= raw / 2^F.
+ghost use mathlib.Core.Path.{_≡_};
+ghost use Prim.Native.Nat.{_-_, _*_, _/_, _^_, _≤_, _<_};
+ghost use Rattle.log10.specs.Meaning.{log10Of};
+
+mod frac_part;
+mod int_part;
+pub mod signed;
+pub mod unsigned;
+
+// The refusal of zero and of negative numbers.
+pub const NOT_POSITIVE: u32 = 32;
+
+// k of a value above zero. A value of at least one has the logarithm of its whole part; below one, k is -1 for no zero
+// behind the point and one less for each.
+fn of_positive(raw: u64, frac: u32) -> i64
+    requires { ⌜ (0 < raw) × (frac ≤ 64) ⌝ }
+    ensures { λ r. ⌜ r ≡ log10Of raw frac ⌝ }
+{
+    let whole = int_of(raw, frac);
+    if whole != 0 {
+        return int_part::log10(whole) as i64;
+    }
+    -1 - frac_part::zeros(frac_of(raw, frac)) as i64
+}
+
+// The whole part of raw / 2^F. A shift by 64 must not occur.
+fn int_of(raw: u64, frac: u32) -> u64
+    requires { ⌜ frac ≤ 64 ⌝ }
+    ensures { λ r. ⌜ r ≡ raw / 2 ^ frac ⌝ }
+{
+    if frac < 64 {
+        return raw >> frac;
+    }
+    0
+}
+
+// A value below one and above zero as a fraction of 64 bits.
+fn frac_of(raw: u64, frac: u32) -> u64
+    requires { ⌜ (0 < raw) × (raw < 2 ^ frac) × (frac ≤ 64) ⌝ }
+    ensures { λ r. ⌜ r ≡ raw * 2 ^ (64 - frac) ⌝ }
+{
+    raw << (64 - frac)
+}
