@@ -6,13 +6,12 @@ use Prim.Native.Nat.{ℕ, zero, suc, _≤_, _<_}
 use native.Mathlib.Omega.{arith}
 use lib.Dec.{T, leb, eqb}
 use lib.IntN.{ℤ, pos, negsuc, natAbs}
-use lib.Signed.{leZ, nonNeg, _≤ℤ_, _<ℤ_}
+use lib.Signed.{nonNeg, _≤ℤ_, _<ℤ_}
 use mir.Syntax.{w64}
 use mir.Val.{Fits, SFits}
 use borrow.Author.Tests.{eqb-true, leb-true, ne-eqb}
 use Rattle.laws.specs.Diff.{orders}
 use Rattle.laws.specs.Bound.{sfits-out}
-use Rattle.laws.specs.Tests.{leZ-false}
 use Rattle.format.specs.declared.SignedAnswer.the-variants.{Done, Refused}
 use Rattle.format.specs.Meaning.{isWidth, faultOf, unless, signedAnswer}
 use Rattle.log10.specs.Meaning.{log10Of, positiveOnly, log10Outcome}
@@ -48,8 +47,8 @@ pub record Positive (x raw : ℤ) : Type 0 where
   pub above : 0 < natAbs x
   pub same : pos (natAbs x) ≡ raw
 
-pub positive : (x raw : ℤ) → SFits w64 raw → x ≡ raw → leZ x (pos 0) ≡ false → Positive x raw
-positive x raw f e t = subst (λ (y : ℤ). Positive x y) e (go x (subst (λ (y : ℤ). SFits w64 y) (sym e) f) (leZ-false x (pos 0) t))
+pub positive : (x raw : ℤ) → SFits w64 raw → x ≡ raw → pos 0 <ℤ raw → Positive x raw
+positive x raw f e l = subst (λ (y : ℤ). Positive y raw) (sym e) (go raw f l)
   where
     go : (x : ℤ) → SFits w64 x → pos 0 <ℤ x → Positive x x
     go (pos n) f l = record { cast = (tt, record { fits = omega (orders, sfits-out f) }); above = omega orders; same = refl }

@@ -4,7 +4,7 @@
 use mathlib.Core.Path.{_≡_, subst}
 use mathlib.Core.Bool.{Bool, true, false, cond}
 use Prim.Native.Nat.{ℕ, zero, suc, _+_, _-_, _*_, _/_, _^_, _≤_, _<_}
-use native.Mathlib.Nat.{pow-suc, pow-zero, one-le-pow, mul-le-mul-left, mul-le-mul-right, le-div-iff-mul-le, div-lt-iff-lt-mul, mul-assoc}
+use native.Mathlib.Nat.{add-sub-cancel, pow-suc, pow-zero, one-le-pow, mul-le-mul-left, mul-le-mul-right, le-div-iff-mul-le, div-lt-iff-lt-mul, mul-assoc}
 use native.Mathlib.Numerals.{add-one}
 use native.Mathlib.Decide.{decLe}
 use native.Mathlib.Omega.{arith}
@@ -78,13 +78,13 @@ front x z j e lo hi =
       subst (λ (n : ℕ). x * 2 ^ z < 2 ^ n) high (shl-lt (suc j) z hi),
     )
 
--- So with the guess g it has at least g zeros behind the point, and at most g + 1.
-pub frac-least : (x : ℕ) → 0 < x → x < 2 ^ 64 → x * 10 ^ guess (leadingZeros 64 x) < 2 ^ 64
+-- So with the guess g its logarithm is -(g + 1) or -(g + 2).
+pub frac-least : (x : ℕ) → 0 < x → x < 2 ^ 64 → x * 10 ^ (guess (leadingZeros 64 x) + 1 - 1) < 2 ^ 64
 frac-least x h f =
     let z = leadingZeros 64 x in
     let s = leading-top 64 x h f in
     let r = guess-right z (omega (arith, s .1)) in
-    omega (arith, front x z (s .0) (s .1) (s .2) (s .3), mul-le-mul-left x (r .low))
+    rw (add-sub-cancel (guess z) 1) (omega (arith, front x z (s .0) (s .1) (s .2) (s .3), mul-le-mul-left x (r .low)))
 
 pub frac-most : (x : ℕ) → 0 < x → x < 2 ^ 64 → 2 ^ 64 ≤ x * 10 ^ (guess (leadingZeros 64 x) + 1 + 1)
 frac-most x h f =
@@ -95,8 +95,8 @@ frac-most x h f =
     rw (e, ← mul-assoc) (omega (arith, front x z (s .0) (s .1) (s .2) (s .3), mul-le-mul-left x (r .high)))
 
 -- The comparison with L = (2^64 - 1) / 10^m: x ≤ L exactly if x 10^m is below 2^64.
-pub limit-in : (x m l : ℕ) → l ≡ (2 ^ 64 - 1) / 10 ^ m → x ≤ l → x * 10 ^ m < 2 ^ 64
-limit-in x m l e h = omega (arith, le-div-iff-mul-le (one-le-pow m 10 (lit< tt)) .0 (rw e at h))
+pub limit-in : (x m l : ℕ) → l ≡ (2 ^ 64 - 1) / 10 ^ m → x ≤ l → x * 10 ^ (m + 1 - 1) < 2 ^ 64
+limit-in x m l e h = rw (add-sub-cancel m 1) (omega (arith, le-div-iff-mul-le (one-le-pow m 10 (lit< tt)) .0 (rw e at h)))
 
 pub limit-out : (x m l : ℕ) → l ≡ (2 ^ 64 - 1) / 10 ^ m → l < x → 2 ^ 64 ≤ x * 10 ^ m
 limit-out x m l e h = omega (arith, div-lt-iff-lt-mul (one-le-pow m 10 (lit< tt)) .0 (rw e at h))

@@ -1,13 +1,12 @@
--- From the two parts of a value to its logarithm: the greatest power in the whole part, and the zeros behind the point of a value below one.
+-- From the two parts of a value to its logarithm: by the whole part, or of a value below one by its fraction.
 -- In each case k is reached and k + 1 is not, which decides (`by-next`). Assumes nothing.
 use mathlib.Core.Path.{_≡_, sym, ap, _∙_}
-use mathlib.Core.Bool.{true}
 use Prim.Native.Nat.{ℕ, zero, suc, _+_, _-_, _*_, _/_, _^_, _≤_, _<_}
 use native.Mathlib.Nat.{pow-zero, le-div-iff-mul-le, div-lt-iff-lt-mul, le-of-mul-le-mul-right, lt-of-mul-lt-mul-right}
 use native.Mathlib.Numerals.{add-one}
 use native.Mathlib.Omega.{arith}
 use lib.Pow.{pow-pos, pow-add}
-use lib.IntN.{pos, negsuc}
+use lib.IntN.{pos, negsuc, negℤ}
 use borrow.Author.Tests.{le-leb, lt-leb}
 use Rattle.log10.specs.Meaning.{reaches, log10Of}
 use Rattle.log10.specs.Theorems.{Greatest, by-next, log10-only}
@@ -26,19 +25,19 @@ module _ (raw f : ℕ) (h : 0 < raw) (b : raw < 2 ^ 64) (l : f ≤ 64) where
       let e : f + (64 - f) ≡ 64 = omega arith in
       ap (λ (n : ℕ). 2 ^ n) (sym e) ∙ pow-add 2 f (64 - f)
 
-  pub zeros-log : (n : ℕ) → (2 ^ 64 ≤ raw * 2 ^ (64 - f) * 10 ^ (n + 1)) × (raw * 2 ^ (64 - f) * 10 ^ n < 2 ^ 64) → negsuc n ≡ log10Of raw f
+  neg-log : (n : ℕ) → 2 ^ f ≤ raw * 10 ^ suc n → raw * 10 ^ n < 2 ^ f → Greatest raw f (negsuc n)
   unfolding reaches
-  zeros-log n g =
+  neg-log zero e u = by-next raw f (negsuc zero) (le-leb (2 ^ f) (raw * 10 ^ 1) e) (lt-leb (10 ^ zero * 2 ^ f) raw (omega (arith, pow-zero 10)))
+  neg-log (suc n) e u = by-next raw f (negsuc (suc n)) (le-leb (2 ^ f) (raw * 10 ^ suc (suc n)) e) (lt-leb (2 ^ f) (raw * 10 ^ suc n) u)
+
+  pub frac-log : (m : ℕ) → (0 < m) × (2 ^ 64 ≤ raw * 2 ^ (64 - f) * 10 ^ m) × (raw * 2 ^ (64 - f) * 10 ^ (m - 1) < 2 ^ 64) → negℤ (pos m) ≡ log10Of raw f
+  frac-log zero g = absurd (omega arith)
+  frac-log (suc n) g =
       let p = 2 ^ (64 - f) in
-      let lo : 2 ^ f * p ≤ raw * 10 ^ suc n * p = omega (arith, halves, ap (λ (m : ℕ). raw * p * 10 ^ m) (add-one n)) in
-      let hi : raw * 10 ^ n * p < 2 ^ f * p = omega (arith, halves) in
-      let low : 2 ^ f ≤ raw * 10 ^ suc n = le-of-mul-le-mul-right lo (pow-pos (64 - f)) in
-      let high : raw * 10 ^ n < 2 ^ f = lt-of-mul-lt-mul-right p hi in
-      log10-only raw f (negsuc n) h b l (go n (le-leb (2 ^ f) (raw * 10 ^ suc n) low) high)
-    where
-      go : (n : ℕ) → reaches raw f (negsuc n) ≡ true → raw * 10 ^ n < 2 ^ f → Greatest raw f (negsuc n)
-      go zero e u = by-next raw f (negsuc zero) e (lt-leb (10 ^ zero * 2 ^ f) raw (omega (arith, pow-zero 10)))
-      go (suc n) e u = by-next raw f (negsuc (suc n)) e (lt-leb (2 ^ f) (raw * 10 ^ suc n) u)
+      let e : suc n - 1 ≡ n = omega arith in
+      let lo : 2 ^ f * p ≤ raw * 10 ^ suc n * p = omega (arith, halves) in
+      let hi : raw * 10 ^ n * p < 2 ^ f * p = omega (arith, halves, ap (λ (m : ℕ). raw * p * 10 ^ m) e) in
+      log10-only raw f (negsuc n) h b l (neg-log n (le-of-mul-le-mul-right lo (pow-pos (64 - f))) (lt-of-mul-lt-mul-right p hi))
 
 -- a value below one and above zero has a fraction bit, and is not 0 as a fraction of 64 bits
 pub some-bit : (raw f : ℕ) → 0 < raw → raw < 2 ^ f → 0 < f

@@ -4,7 +4,7 @@ ghost use Prim.Native.Nat.{_+_, _^_, _≤_, _<_};
 
 // The greatest k with 10^k <= n. The number of bits gives a guess, which is right or one too high: 1233 / 4096 is just
 // below the logarithm of 2.
-pub fn log10(n: u64) -> u32
+pub fn ilog10(n: u64) -> u32
     requires { ⌜ 0 < n ⌝ }
     ensures { λ r. ⌜ (10 ^ r ≤ n) × (n < 10 ^ (r + 1)) ⌝ }
 {

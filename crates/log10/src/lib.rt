@@ -1,6 +1,7 @@
 // The logarithm of document 01, module 3: the greatest k with 10^k <= raw / 2^F.
 ghost use mathlib.Core.Path.{_≡_};
 ghost use Prim.Native.Nat.{_-_, _*_, _/_, _^_, _≤_, _<_};
+ghost use lib.IntN.{pos, _-ℤ_};
 ghost use Rattle.log10.specs.Meaning.{log10Of};
 
 mod frac_part;
@@ -11,17 +12,23 @@ pub mod unsigned;
 // The refusal of zero and of negative numbers.
 pub const NOT_POSITIVE: u32 = 32;
 
-// k of a value above zero. A value of at least one has the logarithm of its whole part; below one, k is -1 for no zero
-// behind the point and one less for each.
+// k of a value above zero: by its whole part, or below one by its fraction.
 fn of_positive(raw: u64, frac: u32) -> i64
     requires { ⌜ (0 < raw) × (frac ≤ 64) ⌝ }
     ensures { λ r. ⌜ r ≡ log10Of raw frac ⌝ }
 {
     let whole = int_of(raw, frac);
     if whole != 0 {
-        return int_part::log10(whole) as i64;
+        return minus(int_part::ilog10(whole), 0);
     }
-    -1 - frac_part::zeros(frac_of(raw, frac)) as i64
+    minus(0, frac_part::frac_log10(frac_of(raw, frac)))
+}
+
+// a - b, as a signed number.
+fn minus(a: u32, b: u32) -> i64
+    ensures { λ r. ⌜ r ≡ pos a -ℤ pos b ⌝ }
+{
+    a as i64 - b as i64
 }
 
 // The whole part of raw / 2^F. A shift by 64 must not occur.

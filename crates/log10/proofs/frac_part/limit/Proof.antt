@@ -59,8 +59,11 @@ returns-18 : tie.Need-returns-18
 returns-18 c = cc
 
 returns-19 : tie.Need-returns-19
-returns-19 c =
-    let e : c .before .args .n ≡ 18 = last (c .before .args .n) 18 (c .match .rest) (c .before .pre) in
+returns-19 c = cc
+
+returns-20 : tie.Need-returns-20
+returns-20 c =
+    let e : c .before .args .m ≡ 19 = last (c .before .args .m) 19 (c .match .rest) (c .before .pre) in
     cc
 
 pub limit-spec : {M : Type 1} → statement M
@@ -85,4 +88,5 @@ limit-spec =
     returns-16
     returns-17
     returns-18
-    returns-19)
+    returns-19
+    returns-20)

@@ -1,12 +1,12 @@
 -- The tests lead to the three answers of `Entry.antt`; a number above zero is what its cast makes of it.
 use borrow.Author.Needs.{needs}
 use mathlib.Core.Path.{_∙_}
+use lib.Signed.{_≤ℤ_, _<ℤ_}
 use mir.Syntax.{w64}
 use mir.Val.{toZ, ofZ}
 use mir.Facts.{toZ-ofZ}
 use lib.IntN.{pos}
-use Rattle.laws.specs.Signed.{ok-back}
-use Rattle.laws.specs.Tests.{leZ-true}
+use Rattle.laws.specs.Signed.{signed, back, ok-back}
 use Rattle.log10.proofs.Entry.{refused-format, refused-number, answered, Positive, positive, frac-64}
 use Rattle.log10.proofs.signed.log10.Statement.{statement}
 use Rattle.log10.proofs.signed.log10.Tie as tie
@@ -20,13 +20,15 @@ returns c = refused-format _ _ _ (c .before .check .ensures) (c .if1 .taken)
 returns-2 : tie.Need-returns-2
 returns-2 c =
     let a = c .before .before .before in
-    refused-number _ _ _ (c .before .before .check .ensures) (c .before .if1 .left) (rw (toZ-ofZ (a .fits .raw)) at (leZ-true (toZ w64 (ofZ w64 (a .args .raw))) (pos 0) (c .if2 .taken)))
+    let below : a .args .raw ≤ℤ pos 0 = omega (signed, back (a .fits .raw)) in
+    refused-number _ _ _ (c .before .before .check .ensures) (c .before .if1 .left) below
 
 -- what is known behind the second test
 above-zero : (c : tie.Else2) → Positive (toZ w64 (ofZ w64 (c .before .before .before .args .raw))) (c .before .before .before .args .raw)
 above-zero c =
     let a = c .before .before .before in
-    positive _ _ (a .fits .raw) (toZ-ofZ (a .fits .raw)) (c .if2 .left)
+    let above : pos 0 <ℤ a .args .raw = omega (signed, back (a .fits .raw)) in
+    positive _ _ (a .fits .raw) (toZ-ofZ (a .fits .raw)) above
 
 cast-of-positive : tie.Need-cast-of-positive
 cast-of-positive c = above-zero c .cast

@@ -4,8 +4,8 @@ use native.Mathlib.Omega.{arith}
 use lib.Count.{leading-le}
 use mathlib.Core.Path.{refl}
 use Rattle.log10.proofs.Guess.{whole-high, whole-less}
-use Rattle.log10.proofs.int_part.log10.Statement.{statement}
-use Rattle.log10.proofs.int_part.log10.Tie as tie
+use Rattle.log10.proofs.int_part.ilog10.Statement.{statement}
+use Rattle.log10.proofs.int_part.ilog10.Tie as tie
 
 sub-bits : tie.Need-sub-bits
 sub-bits c = leading-le 64 (c .args .n)
@@ -32,5 +32,5 @@ returns-2 c =
     let a = c .before .before in
     (omega (arith, c .before .power .ensures), whole-high (a .args .n) (a .fits .n .fits))
 
-pub log10-spec : {M : Type 1} → statement M
-log10-spec = tie.close (tie.spec sub-bits mul-guess power-requires sub-result returns returns-2)
+pub ilog10-spec : {M : Type 1} → statement M
+ilog10-spec = tie.close (tie.spec sub-bits mul-guess power-requires sub-result returns returns-2)
