@@ -4,56 +4,57 @@
 use mathlib.Core.Path.{_≡_, subst}
 use mathlib.Core.Bool.{Bool, true, false, cond}
 use Prim.Native.Nat.{ℕ, zero, suc, _+_, _-_, _*_, _/_, _^_, _≤_, _<_}
-use native.Mathlib.Nat.{add-sub-cancel, pow-suc, pow-zero, one-le-pow, mul-le-mul-left, mul-le-mul-right, le-div-iff-mul-le, div-lt-iff-lt-mul, mul-assoc}
+use native.Mathlib.Nat.{le-of-lt, pow-le-pow-right, add-sub-cancel, pow-suc, pow-zero, one-le-pow, mul-le-mul-left, mul-le-mul-right, le-div-iff-mul-le, div-lt-iff-lt-mul, mul-assoc}
 use native.Mathlib.Numerals.{add-one}
 use native.Mathlib.Decide.{decLe}
 use native.Mathlib.Omega.{arith}
-use lib.Dec.{T, leb, leb→le, lit<}
-use lib.Pow.{pow-add, shl-lt}
+use lib.Dec.{T, leb, ltb, leb→le, ltb→lt, lit<}
+use lib.Pow.{pow-mono, pow-add, shl-lt}
 use lib.Count.{leadingZeros, leading-length, leading-top}
 
 abbrev pub guess : ℕ → ℕ
 guess b = b * 1233 / 4096
 
+-- g is the logarithm of 2^b, rounded down
+abbrev pub Rounded : ℕ → ℕ → Type 0
+Rounded b g = (10 ^ g ≤ 2 ^ b) × (2 ^ b < 10 ^ (g + 1))
+
 -- the test at b, and at each number below n
 abbrev right : ℕ → Bool
-right b = cond (leb (10 ^ guess b) (2 ^ b)) (leb (2 ^ b) (10 ^ (guess b + 1))) false
+right b = cond (leb (10 ^ guess b) (2 ^ b)) (ltb (2 ^ b) (10 ^ (guess b + 1))) false
 
 abbrev all : ℕ → Bool
 all zero = true
 all (suc n) = cond (right n) (all n) false
 
--- 10^g ≤ 2^b ≤ 10^(g + 1)
-pub record Right (b : ℕ) : Type 0 where
-  pub low : 10 ^ guess b ≤ 2 ^ b
-  pub high : 2 ^ b ≤ 10 ^ (guess b + 1)
-
-of-test : (b : ℕ) → T (right b) → Right b
-of-test b t = go (leb (10 ^ guess b) (2 ^ b)) (λ s. leb→le _ _ s) t
+of-test : (b : ℕ) → T (right b) → Rounded b (guess b)
+of-test b t = go (leb (10 ^ guess b) (2 ^ b)) (leb→le (10 ^ guess b) (2 ^ b)) t
   where
-    go : (s : Bool) → (T s → 10 ^ guess b ≤ 2 ^ b) → T (cond s (leb (2 ^ b) (10 ^ (guess b + 1))) false) → Right b
-    go true f t = record { low = f tt; high = leb→le _ _ t }
+    go : (s : Bool) → (T s → 10 ^ guess b ≤ 2 ^ b) → T (cond s (ltb (2 ^ b) (10 ^ (guess b + 1))) false) → Rounded b (guess b)
+    go true f t = (f tt, ltb→lt (2 ^ b) (10 ^ (guess b + 1)) t)
     go false f t = absurd t
 
-below : (n : ℕ) → T (all n) → (b : ℕ) → b < n → Right b
+below : (n : ℕ) → T (all n) → (b : ℕ) → b < n → Rounded b (guess b)
 below zero t b h = absurd (omega arith)
-below (suc n) t b h = go (right n) (λ s. of-test n s) (λ a. below n a b) t (decLe n b)
+below (suc n) t b h = go (right n) (of-test n) (λ a. below n a b) t (decLe n b)
   where
-    go : (s : Bool) → (T s → Right n) → (T (all n) → b < n → Right b) → T (cond s (all n) false) → Dec (n ≤ b) → Right b
-    go true f g t (yes l) = subst (λ (m : ℕ). Right m) (omega arith) (f tt)
+    go : (s : Bool) → (T s → Rounded n (guess n)) → (T (all n) → b < n → Rounded b (guess b)) → T (cond s (all n) false) → Dec (n ≤ b) → Rounded b (guess b)
+    go true f g t (yes l) = let e : n ≡ b = omega arith in subst (λ (m : ℕ). Rounded m (guess m)) e (f tt)
     go true f g t (no l) = g t (omega arith)
     go false f g t d = absurd t
 
-pub guess-right : (b : ℕ) → b ≤ 64 → Right b
+pub guess-right : (b : ℕ) → b ≤ 64 → Rounded b (guess b)
 guess-right b h = below 65 tt b (omega arith)
 
--- A number of b bits, and its guess g: below 10^(g + 1); and where it is below 10^g, g - 1 is its logarithm.
-pub whole-high : (n : ℕ) → n < 2 ^ 64 → n < 10 ^ (guess (64 - leadingZeros 64 n) + 1)
-whole-high n f =
-    let s = leading-length 64 n f in
-    let e : 64 - leadingZeros 64 n ≡ s .0 = omega (arith, s .1) in
-    rw e (omega (arith, s .2, guess-right (s .0) (omega (arith, s .1)) .high))
+-- A power below another has the smaller exponent: how far a guess can go.
+pub exponent-lt : (g n : ℕ) → 10 ^ g < 10 ^ n → g < n
+exponent-lt g n h = go (decLe n g)
+  where
+    go : Dec (n ≤ g) → g < n
+    go (yes l) = absurd (omega (arith, pow-le-pow-right {n = 10} (lit< tt) l))
+    go (no l) = omega arith
 
+-- where n is below 10^g, and 10^g is no more than one bit above it
 one-less : (n g : ℕ) → 0 < n → n < 10 ^ g → 10 ^ g ≤ 2 * n + 1 → (1 ≤ g) × (10 ^ (g - 1) ≤ n) × (n < 10 ^ (g - 1 + 1))
 one-less n zero h l u = absurd (omega (arith, pow-zero 10))
 one-less n (suc g) h l u =
@@ -62,37 +63,50 @@ one-less n (suc g) h l u =
     let p = pow-suc 10 g in
     (omega arith, rw e (omega arith), rw (e, d) l)
 
-pub whole-less : (n : ℕ) → 0 < n → n < 2 ^ 64 → (g : ℕ) → g ≡ guess (64 - leadingZeros 64 n) → n < 10 ^ g → (1 ≤ g) × (10 ^ (g - 1) ≤ n) × (n < 10 ^ (g - 1 + 1))
-whole-less n h f g e l =
-    let s = leading-length 64 n f in
-    let b : 64 - leadingZeros 64 n ≡ s .0 = omega (arith, s .1) in
-    let r = guess-right (s .0) (omega (arith, s .1)) in
-    one-less n g h l (rw (e, b) (omega (arith, r .low, s .3)))
+-- A whole number n, with the guess g from the number of its bits.
+module _ (n g : ℕ) (f : n < 2 ^ 64) (r : Rounded (64 - leadingZeros 64 n) g) where
+  bits : ((n < 2 ^ (64 - leadingZeros 64 n)) × (2 ^ (64 - leadingZeros 64 n) ≤ 2 * n + 1))
+  bits =
+      let s = leading-length 64 n f in
+      let e : 64 - leadingZeros 64 n ≡ s .0 = omega (arith, s .1) in
+      rw e (s .2, s .3)
 
--- A fraction x / 2^64, not 0, with z zero bits in front: 2^63 ≤ x 2^z < 2^64.
-front : (x z j : ℕ) → z + suc j ≡ 64 → 2 ^ j ≤ x → x < 2 ^ suc j → (2 ^ 63 ≤ x * 2 ^ z) × (x * 2 ^ z < 2 ^ 64)
-front x z j e lo hi =
-    let low : j + z ≡ 63 = omega arith in
-    let high : suc j + z ≡ 64 = omega arith in (
-      subst (λ (n : ℕ). 2 ^ n ≤ x * 2 ^ z) low (rw pow-add (mul-le-mul-right (2 ^ z) lo)),
-      subst (λ (n : ℕ). x * 2 ^ z < 2 ^ n) high (shl-lt (suc j) z hi),
-    )
+  -- g is in the table of powers
+  pub whole-lt : g < 20
+  whole-lt = exponent-lt g 20 (omega (arith, r .0, pow-mono {i = 64 - leadingZeros 64 n} {j = 64} (omega arith)))
 
--- So with the guess g its logarithm is -(g + 1) or -(g + 2).
-pub frac-least : (x : ℕ) → 0 < x → x < 2 ^ 64 → x * 10 ^ (guess (leadingZeros 64 x) + 1 - 1) < 2 ^ 64
-frac-least x h f =
-    let z = leadingZeros 64 x in
-    let s = leading-top 64 x h f in
-    let r = guess-right z (omega (arith, s .1)) in
-    rw (add-sub-cancel (guess z) 1) (omega (arith, front x z (s .0) (s .1) (s .2) (s .3), mul-le-mul-left x (r .low)))
+  -- n is below 10^(g + 1)
+  pub whole-high : n < 10 ^ (g + 1)
+  whole-high = omega (arith, bits, r .1)
 
-pub frac-most : (x : ℕ) → 0 < x → x < 2 ^ 64 → 2 ^ 64 ≤ x * 10 ^ (guess (leadingZeros 64 x) + 1 + 1)
-frac-most x h f =
-    let z = leadingZeros 64 x in
-    let s = leading-top 64 x h f in
-    let r = guess-right z (omega (arith, s .1)) in
-    let e : 10 ^ (guess z + 1 + 1) ≡ 10 ^ (guess z + 1) * 10 = rw (add-one (guess z + 1), pow-suc) in
-    rw (e, ← mul-assoc) (omega (arith, front x z (s .0) (s .1) (s .2) (s .3), mul-le-mul-left x (r .high)))
+  -- and where it is below 10^g, its logarithm is g - 1
+  pub whole-less : 0 < n → n < 10 ^ g → (1 ≤ g) × (10 ^ (g - 1) ≤ n) × (n < 10 ^ (g - 1 + 1))
+  whole-less h l = one-less n g h l (omega (arith, bits, r .0))
+
+-- A fraction x / 2^64, not 0, with the guess g from the number of its zero bits in front.
+module _ (x g : ℕ) (h : 0 < x) (f : x < 2 ^ 64) (r : Rounded (leadingZeros 64 x) g) where
+  -- 2^63 ≤ x 2^z < 2^64
+  front : (2 ^ 63 ≤ x * 2 ^ leadingZeros 64 x) × (x * 2 ^ leadingZeros 64 x < 2 ^ 64)
+  front =
+      let z = leadingZeros 64 x in
+      let s = leading-top 64 x h f in
+      let low : s .0 + z ≡ 63 = omega (arith, s .1) in
+      let high : suc (s .0) + z ≡ 64 = omega (arith, s .1) in
+      (subst (λ (n : ℕ). 2 ^ n ≤ x * 2 ^ z) low (rw pow-add (mul-le-mul-right (2 ^ z) (s .2))), subst (λ (n : ℕ). x * 2 ^ z < 2 ^ n) high (shl-lt (suc (s .0)) z (s .3)))
+
+  -- its logarithm is -(g + 1) or -(g + 2)
+  pub frac-least : x * 10 ^ (g + 1 - 1) < 2 ^ 64
+  frac-least = rw (add-sub-cancel g 1) (omega (arith, front, mul-le-mul-left x (r .0)))
+
+  pub frac-most : 2 ^ 64 ≤ x * 10 ^ (g + 1 + 1)
+  frac-most =
+      let e : 10 ^ (g + 1 + 1) ≡ 10 ^ (g + 1) * 10 = rw (add-one (g + 1), pow-suc) in
+      let m = mul-le-mul-left x (le-of-lt (r .1)) in
+      rw (e, ← mul-assoc) (omega (arith, front))
+
+  -- g + 1 is in the table of limits
+  pub frac-lt : g + 1 < 20
+  frac-lt = let l : g < 19 = exponent-lt g 19 (omega (arith, r .0, pow-mono {i = leadingZeros 64 x} {j = 63} (omega (arith, leading-top 64 x h f .1)))) in omega arith
 
 -- The comparison with L = (2^64 - 1) / 10^m: x ≤ L exactly if x 10^m is below 2^64.
 pub limit-in : (x m l : ℕ) → l ≡ (2 ^ 64 - 1) / 10 ^ m → x ≤ l → x * 10 ^ (m + 1 - 1) < 2 ^ 64

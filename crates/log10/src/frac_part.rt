@@ -4,13 +4,13 @@ ghost use Prim.Native.Nat.{_+_, _-_, _*_, _/_, _^_, _≤_, _<_};
 
 const MAX: u64 = 0xffff_ffff_ffff_ffff;
 
-// The least m with 10^-m <= x / 2^64, which is 1 or more: k is -m. The zero bits in front of x give a guess, which is right
-// or one too low: 1233 / 4096 is just below the logarithm of 2.
+// The least m with 10^-m <= x / 2^64, which is 1 or more: k is -m. The zero bits in front give a guess, which is right or
+// one too low.
 pub fn frac_log10(x: u64) -> u32
     requires { ⌜ 0 < x ⌝ }
     ensures { λ r. ⌜ (0 < r) × (2 ^ 64 ≤ x * 10 ^ r) × (x * 10 ^ (r - 1) < 2 ^ 64) ⌝ }
 {
-    let guess = u64::leading_zeros(x) * 1233 / 4096 + 1;
+    let guess = crate::of_bits(u64::leading_zeros(x)) + 1;
     if x <= limit(guess) {
         return guess + 1;
     }

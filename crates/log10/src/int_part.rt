@@ -2,14 +2,12 @@
 ghost use mathlib.Core.Path.{_≡_};
 ghost use Prim.Native.Nat.{_+_, _^_, _≤_, _<_};
 
-// The greatest k with 10^k <= n. The number of bits gives a guess, which is right or one too high: 1233 / 4096 is just
-// below the logarithm of 2.
+// The greatest k with 10^k <= n. The number of bits gives a guess, which is right or one too high.
 pub fn ilog10(n: u64) -> u32
     requires { ⌜ 0 < n ⌝ }
     ensures { λ r. ⌜ (10 ^ r ≤ n) × (n < 10 ^ (r + 1)) ⌝ }
 {
-    let bits = 64 - u64::leading_zeros(n);
-    let guess = bits * 1233 / 4096;
+    let guess = crate::of_bits(64 - u64::leading_zeros(n));
     if n < power(guess) {
         return guess - 1;
     }

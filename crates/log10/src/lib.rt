@@ -1,6 +1,6 @@
 // The logarithm of document 01, module 3: the greatest k with 10^k <= raw / 2^F.
 ghost use mathlib.Core.Path.{_≡_};
-ghost use Prim.Native.Nat.{_-_, _*_, _/_, _^_, _≤_, _<_};
+ghost use Prim.Native.Nat.{_+_, _-_, _*_, _/_, _^_, _≤_, _<_};
 ghost use lib.IntN.{pos, _-ℤ_};
 ghost use Rattle.log10.specs.Meaning.{log10Of};
 
@@ -29,6 +29,14 @@ fn minus(a: u32, b: u32) -> i64
     ensures { λ r. ⌜ r ≡ pos a -ℤ pos b ⌝ }
 {
     a as i64 - b as i64
+}
+
+// The logarithm of 2^bits, rounded down: 1233 / 4096 is just below the logarithm of 2.
+fn of_bits(bits: u32) -> u32
+    requires { ⌜ bits ≤ 64 ⌝ }
+    ensures { λ r. ⌜ (10 ^ r ≤ 2 ^ bits) × (2 ^ bits < 10 ^ (r + 1)) ⌝ }
+{
+    bits * 1233 / 4096
 }
 
 // The whole part of raw / 2^F. A shift by 64 must not occur.

@@ -1,6 +1,6 @@
 -- Either number that is cast is not negative: -1 - value of a negative value, and a value that is not. What is read back of its bits is the number.
 use borrow.Author.Needs.{needs}
-use mathlib.Core.Path.{_≡_, sym, subst}
+use mathlib.Core.Path.{sym, subst}
 use Prim.Native.Nat.{_+_}
 use lib.Dec.{T}
 use lib.IntN.{ℤ, pos, negsuc, natAbs, _-ℤ_}
