@@ -1,17 +1,17 @@
--- `log10Of` is the greatest k that is reached, and the only one; below one, k runs over document 01's ranges.
+-- `log10Of` is the greatest k that is reached, and the only one; it rises with the value; below one, k runs over document 01's ranges.
 -- The idea: a power reached lies above every lower power, so k is the greatest as soon as k is reached and k + 1 is not.
 -- Assumes nothing.
 use mathlib.Core.Path.{_≡_, refl}
 use mathlib.Core.Bool.{Bool, true, false, cond}
 use mathlib.Core.Logic.{_⊎_, inl, inr}
 use Prim.Native.Nat.{ℕ, zero, suc, _*_, _^_, _≤_, _<_}
-use native.Mathlib.Nat.{pow-le-pow-right, one-le-pow, mul-le-mul-right, mul-le-mul-left}
+use native.Mathlib.Nat.{pow-le-pow-right, one-le-pow, mul-le-mul-right, mul-le-mul-left, le-of-mul-le-mul-right}
 use native.Mathlib.Omega.{arith}
 use lib.Dec.{lit<, lit≤}
 use lib.Pow.{pow-pos, pow-mono}
 use lib.IntN.{ℤ, pos, negsuc, sucℤ, predℤ, suc-pred}
 use lib.Signed.{_≤ℤ_, _<ℤ_}
-use borrow.Author.Tests.{leb-false, le-leb, lt-leb}
+use borrow.Author.Tests.{leb-true, leb-false, le-leb, lt-leb}
 use Rattle.laws.specs.Diff.{le-out, orders}
 use Rattle.laws.specs.Order.{<ℤ-or-≥ℤ, ≤ℤ-antisym}
 use Rattle.log10.specs.Meaning.{reaches, downFrom, log10Of}
@@ -103,6 +103,29 @@ at-most raw f k j g e = pick (<ℤ-or-≥ℤ j k)
     pick : (j <ℤ k) ⊎ (k ≤ℤ j) → k ≤ℤ j
     pick (inl l) = absurd (clash raw f k (g .reached) (rises raw f (sucℤ j) k (next j k l) e))
     pick (inr l) = l
+
+-- A greater value reaches what a lesser one does: a / 2^f <= b / 2^g is a 2^g <= b 2^f.
+pub carries : (a f b g : ℕ) (k : ℤ) → a * 2 ^ g ≤ b * 2 ^ f → reaches a f k ≡ true → reaches b g k ≡ true
+unfolding reaches
+carries a f b g (pos n) h e =
+    let l = mul-le-mul-right (2 ^ g) (leb-true (10 ^ n * 2 ^ f) a e) in
+    let m : 10 ^ n * 2 ^ g * 2 ^ f ≤ b * 2 ^ f = omega arith in
+    le-leb (10 ^ n * 2 ^ g) b (le-of-mul-le-mul-right m (pow-pos f))
+carries a f b g (negsuc n) h e =
+    let l = mul-le-mul-right (2 ^ g) (leb-true (2 ^ f) (a * 10 ^ suc n) e) in
+    let p = mul-le-mul-right (10 ^ suc n) h in
+    let m : 2 ^ g * 2 ^ f ≤ b * 10 ^ suc n * 2 ^ f = omega arith in
+    le-leb (2 ^ g) (b * 10 ^ suc n) (le-of-mul-le-mul-right m (pow-pos f))
+
+-- So the logarithm rises with the value, and depends on the value alone: raw and F stand for it, in whatever format.
+pub log10-mono : (a f b g : ℕ) → 0 < a → a < 2 ^ 64 → f ≤ 64 → 0 < b → b < 2 ^ 64 → g ≤ 64 → a * 2 ^ g ≤ b * 2 ^ f → log10Of a f ≤ℤ log10Of b g
+log10-mono a f b g ha ka la hb kb lb h =
+    let k = log10Of a f in
+    at-least b g (log10Of b g) k (log10-greatest b g hb kb lb) (carries a f b g k h (log10-greatest a f ha ka la .reached))
+
+pub log10-value : (a f b g : ℕ) → 0 < a → a < 2 ^ 64 → f ≤ 64 → 0 < b → b < 2 ^ 64 → g ≤ 64 → a * 2 ^ g ≡ b * 2 ^ f → log10Of a f ≡ log10Of b g
+log10-value a f b g ha ka la hb kb lb e =
+    ≤ℤ-antisym (log10-mono a f b g ha ka la hb kb lb (omega arith)) (log10-mono b g a f hb kb lb ha ka la (omega arith))
 
 -- "For a value below one, seen as a W-bit fraction, k runs from -1 down to -3, -5, -10, -20 for W = 8, 16, 32, 64" (`negsuc d` is -(d + 1)).
 -- That the ends are met is in Cases.
