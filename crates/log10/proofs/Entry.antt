@@ -23,7 +23,7 @@ unfolding log10Outcome unless signedAnswer
 refused-format raw w f {n} e h = rw (sym e, ne-eqb n 0 h)
 
 -- with no fault the answer is that of the number alone
-pub of-number : (raw : ℤ) (w f : ℕ) {n : ℕ} → n ≡ faultOf w f → n ≡ 0 → log10Outcome raw w f ≡ positiveOnly raw f
+of-number : (raw : ℤ) (w f : ℕ) {n : ℕ} → n ≡ faultOf w f → n ≡ 0 → log10Outcome raw w f ≡ positiveOnly raw f
 unfolding log10Outcome unless
 of-number raw w f {n} e h = rw (sym e, h)
 

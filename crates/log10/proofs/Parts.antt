@@ -39,7 +39,7 @@ module _ (raw f : ℕ) (h : 0 < raw) (b : raw < 2 ^ 64) (l : f ≤ 64) where
       let hi : raw * 10 ^ n * p < 2 ^ f * p = omega (arith, halves, ap (λ (m : ℕ). raw * p * 10 ^ m) e) in
       log10-only raw f (negsuc n) h b l (neg-log n (le-of-mul-le-mul-right lo (pow-pos (64 - f))) (lt-of-mul-lt-mul-right p hi))
 
--- a value below one and above zero has a fraction bit, and is not 0 as a fraction of 64 bits
+-- a value below one and above zero has a fraction bit
 pub some-bit : (raw f : ℕ) → 0 < raw → raw < 2 ^ f → 0 < f
 some-bit raw zero h b = absurd (omega (arith, pow-zero 2))
 some-bit raw (suc f) h b = omega arith

@@ -1,4 +1,4 @@
--- The whole part's logarithm and the zeros behind the point are the value's logarithm (`Parts.antt`).
+-- The logarithm of the whole part, or of the fraction where there is none, is the value's (`Parts.antt`); `minus` gives it its sign.
 use borrow.Author.Needs.{needs}
 use mathlib.Core.Path.{_≡_, _∙_}
 use native.Mathlib.Nat.{mul-pos}
