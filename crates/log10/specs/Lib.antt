@@ -1,0 +1,4 @@
+pub mod Meaning
+pub mod Theorems
+pub mod Promise
+pub mod Cases
