@@ -1,0 +1,39 @@
+-- `headroom` meets its promise: where the call is refused, nothing is done; else the verdict's own equations. Assumes nothing.
+use mathlib.Core.Path.{sym, _∙_}
+use lib.ListN.{length}
+use Rattle.filter.specs.Refuse.{head-fit, head-refused, head-done}
+use borrow.Author.Needs.{needs}
+use Rattle.filter.proofs.headroom.Statement.{statement}
+use Rattle.filter.proofs.headroom.Tie as tie
+use Rattle.filter.proofs.headroom.Reads as reads
+use Rattle.filter.proofs.headroom.Lts as lts
+use Rattle.filter.proofs.fault.headroom.Reads as headroom-reads
+use Rattle.filter.proofs.peak.verdict.Reads as verdict-reads
+
+headroom-requires : tie.Need-headroom-requires
+headroom-requires c κs = search needs
+
+returns : tie.Need-returns
+returns c =
+    let a = c .before .before .args in
+    head-refused (c .before .headroom .result) _ _ (a .taps .now) (a .witness .now) (c .before .headroom .ensures) (c .if1 .taken)
+
+verdict-requires : tie.Need-verdict-requires
+verdict-requires c κs =
+    let a = c .before .before .before .args in
+    let fit = head-fit (length (a .taps .now)) (length (a .witness .now)) (sym (c .before .before .headroom .ensures) ∙ c .before .if1 .left) in
+    (fit .1, sym (fit .0))
+
+same-length : tie.Need-same-length
+same-length c = search needs
+
+returns-2 : tie.Need-returns-2
+returns-2 c =
+    let a = c .before .before .before .before .before .args in
+    let fault = c .before .before .before .before .headroom in
+    let told = c .before .verdict .ensures in
+    head-done (fault .result) _ _ (a .taps .now) (a .witness .now) (fault .ensures) (c .before .before .before .if1 .left) _ _ (told .0) (told .1)
+
+pub headroom-spec : {M : Type 1} → statement M
+headroom-spec =
+    tie.close (tie.spec headroom-requires returns verdict-requires same-length returns-2)
