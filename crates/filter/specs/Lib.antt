@@ -1,7 +1,12 @@
 pub mod Block
+pub mod Cases
+pub mod Drive
 pub mod Head
 pub mod Meaning
 pub mod Promise
+pub mod Range
 pub mod Refuse
+pub mod Rounding
 pub mod Run
 pub mod Sum
+pub mod Theorems

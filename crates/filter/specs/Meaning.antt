@@ -9,12 +9,7 @@ use lib.ListN.{length, take, replicate}
 use lib.Signed.{ltZ}
 use Rattle.laws.specs.Floor.{floor}
 use Rattle.format.specs.Meaning.{signed, lowest, highest, fits, hold}
-use Rattle.format.specs.declared.SignedAnswer.{SignedAnswer}
-use Rattle.format.specs.declared.SignedAnswer.the-variants.{Done as DoneS, Refused as RefusedS}
-use Rattle.format.specs.declared.UnsignedAnswer.{UnsignedAnswer}
-use Rattle.format.specs.declared.UnsignedAnswer.the-variants.{Done as DoneU, Refused as RefusedU}
 use Rattle.filter.specs.declared.State.{State}
-use Rattle.filter.specs.declared.Stepped.{Stepped}
 use Rattle.filter.specs.declared.peak.Way.{Way}
 use Rattle.filter.specs.declared.peak.Way.the-variants.{High, Low}
 
@@ -22,8 +17,12 @@ use Rattle.filter.specs.declared.peak.Way.the-variants.{High, Low}
 abbrev pub mostTaps : ℕ
 mostTaps = 64
 
+-- the samples of a state, newest first; and the state of a list of samples
 abbrev pub history : State → List ℤ
 history state = state .samples
+
+abbrev pub stateOf : List ℤ → State
+stateOf samples = record { samples = samples }
 
 -- "at the start all 0"
 abbrev pub silence : List ℤ

@@ -1,11 +1,12 @@
 -- The laws of a run: a block may be cut anywhere, and what the pieces give in turn is what the whole gives. Assumes nothing.
-use mathlib.Core.Path.{_≡_, refl, ap, _∙_}
+use mathlib.Core.Path.{_≡_, refl, sym, _∙_}
 use mathlib.Core.Bool.{Bool, true, false}
-use mathlib.Core.List.{List, [], _∷_, _++_}
-use Prim.Native.Nat.{ℕ, _+_, _≤_}
+use mathlib.Core.List.{List, [], _∷_, _++_, append-assoc, reverse, reverse-cons}
+use Prim.Native.Nat.{ℕ, zero, suc, _+_, _≤_}
 use native.Mathlib.Omega.{arith}
 use lib.IntN.{ℤ}
-use lib.ListN.{length, length-take}
+use lib.ListN.{length, take, length-take}
+use lib.Seq.{take-take, take-all}
 use Rattle.filter.specs.Meaning.{mostTaps, next, outputOf, clipOf, after, outputsOf, clipsOf, bitOf, clipped}
 
 pub after-append : (h xs ys : List ℤ) → after h (xs ++ ys) ≡ after (after h xs) ys
@@ -54,3 +55,21 @@ bit-le false = omega arith
 pub next-length : (h : List ℤ) (x : ℤ) → length h ≡ mostTaps → length (next h x) ≡ mostTaps
 unfolding next
 next-length h x e = simp length-take (omega arith)
+
+-- the history after a block: the new samples, newest first, before the old ones, and of these the last 64
+take-inner : (n m : ℕ) (xs ys : List ℤ) → n ≤ m → take n (xs ++ take m ys) ≡ take n (xs ++ ys)
+take-inner n m [] ys h = take-take n m ys h
+take-inner zero m (x ∷ xs) ys h = refl
+take-inner (suc n) m (x ∷ xs) ys h = rw (take-inner n m xs ys (omega arith))
+
+next-few : (h : List ℤ) (x : ℤ) → length (next h x) ≤ mostTaps
+unfolding next
+next-few h x = simp length-take (omega arith)
+
+pub after-is : (h xs : List ℤ) → length h ≤ mostTaps → after h xs ≡ take mostTaps (reverse xs ++ h)
+unfolding after next
+after-is h [] e = sym (take-all mostTaps h e)
+after-is h (x ∷ xs) e =
+    after-is (next h x) xs (next-few h x)
+    ∙ take-inner mostTaps mostTaps (reverse xs) (x ∷ h) (omega arith)
+    ∙ rw (reverse-cons, append-assoc)

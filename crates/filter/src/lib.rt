@@ -1,4 +1,5 @@
 // The filter and the headroom check (01, modules 7 and 8). Taps and samples are I1F15 raws; the newest sample stands first.
+ghost use Rattle.filter.specs.Meaning.{stateOf};
 ghost use Rattle.filter.specs.Promise.{Silent, Steps, Runs, Heads};
 
 mod block;
@@ -64,7 +65,7 @@ pub fn run(
     outputs: &mut [i16],
     clips: &mut [u8],
 ) -> UnsignedAnswer
-    ensures { λ r. ⌜ Runs (now (taps .entry)) (now (state .entry)) (now (samples .entry)) (now (outputs .entry)) (now (clips .entry)) r (now (state .exit)) (now (outputs .exit)) (now (clips .exit)) ⌝ }
+    ensures { λ r. ⌜ Runs (now (taps .entry)) (stateOf (now (state .entry))) (now (samples .entry)) (now (outputs .entry)) (now (clips .entry)) r (stateOf (now (state .exit))) (now (outputs .exit)) (now (clips .exit)) ⌝ }
 {
     let fault = fault::block(taps.len(), samples.len(), outputs.len(), clips.len());
     if fault != 0 {

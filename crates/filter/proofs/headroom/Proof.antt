@@ -1,7 +1,13 @@
 -- `headroom` meets its promise: where the call is refused, nothing is done; else the verdict's own equations. Assumes nothing.
-use mathlib.Core.Path.{sym, _∙_}
+use mathlib.Core.Path.{_≡_, sym, _∙_}
 use lib.ListN.{length}
-use Rattle.filter.specs.Refuse.{head-fit, head-refused, head-done}
+use Rattle.filter.specs.Refuse.{head-fit, refuses, goes-on}
+use Rattle.filter.specs.Promise.{headed, headroomOf}
+use Rattle.format.specs.declared.UnsignedAnswer.the-variants.{Done as DoneU}
+use mathlib.Core.Bool.{false}
+use mathlib.Core.List.{List}
+use Prim.Native.Nat.{ℕ}
+use lib.IntN.{ℤ}
 use borrow.Author.Needs.{needs}
 use Rattle.filter.proofs.headroom.Statement.{statement}
 use Rattle.filter.proofs.headroom.Tie as tie
@@ -14,9 +20,8 @@ headroom-requires : tie.Need-headroom-requires
 headroom-requires c κs = search needs
 
 returns : tie.Need-returns
-returns c =
-    let a = c .before .before .args in
-    head-refused (c .before .headroom .result) _ _ (a .taps .now) (a .witness .now) (c .before .headroom .ensures) (c .if1 .taken)
+unfolding headroomOf
+returns c = refuses _ _ _ _ (c .before .headroom .ensures) (c .if1 .taken)
 
 verdict-requires : tie.Need-verdict-requires
 verdict-requires c κs =
@@ -27,12 +32,16 @@ verdict-requires c κs =
 same-length : tie.Need-same-length
 same-length c = search needs
 
+-- what the callee gives, put into the outcome
+same-head : {v w : ℕ} {kept witness : List ℤ} → v ≡ w → kept ≡ witness → headed (DoneU v false) kept ≡ headed (DoneU w false) witness
+same-head d k = rw (d, k)
+
 returns-2 : tie.Need-returns-2
+unfolding headroomOf
 returns-2 c =
-    let a = c .before .before .before .before .before .args in
     let fault = c .before .before .before .before .headroom in
     let told = c .before .verdict .ensures in
-    head-done (fault .result) _ _ (a .taps .now) (a .witness .now) (fault .ensures) (c .before .before .before .if1 .left) _ _ (told .0) (told .1)
+    same-head (told .0) (told .1) ∙ goes-on _ _ _ _ (fault .ensures) (c .before .before .before .if1 .left)
 
 pub headroom-spec : {M : Type 1} → statement M
 headroom-spec =

@@ -6,8 +6,14 @@ use Rattle.laws.specs.Signed.{ok-back}
 use Rattle.filter.specs.Run.{next-length}
 use Rattle.filter.specs.declared.sum.Held.{Held}
 use mathlib.Core.Path.{_≡_, ap, _∙_, sym}
-use Rattle.filter.specs.Meaning.{mostTaps, history, outputOf, clipOf}
-use Rattle.filter.specs.Refuse.{step-refused, step-done, taps-few}
+use Rattle.filter.specs.Meaning.{mostTaps, history, next, outputOf, clipOf}
+use Rattle.filter.specs.Refuse.{taps-few, refuses, goes-on}
+use Rattle.filter.specs.Promise.{stepped, stepOf}
+use Rattle.format.specs.declared.SignedAnswer.the-variants.{Done as DoneS}
+use mathlib.Core.Bool.{Bool}
+use mathlib.Core.List.{List}
+use lib.IntN.{ℤ}
+use mir.Val.{toZ, ofZ}
 use borrow.Author.Needs.{needs}
 use Rattle.filter.proofs.step.Statement.{statement}
 use Rattle.filter.proofs.step.Tie as tie
@@ -22,12 +28,16 @@ taps-requires : tie.Need-taps-requires
 taps-requires c κs = search needs
 
 returns : tie.Need-returns
-returns c =
-    let a = c .before .before .args in
-    step-refused (c .before .taps .result) _ (a .taps .now) (history (a .state)) (a .x) (c .before .taps .ensures) (c .if1 .taken)
+unfolding stepOf
+returns c = refuses _ _ _ _ (c .before .taps .ensures) (c .if1 .taken)
 
 push-requires : tie.Need-push-requires
 push-requires c κs = search needs
+
+-- what the callees give, put into the step's outcome
+same-step : (taps : List ℤ) {y : ℤ} {b : Bool} {line new : List ℤ} → y ≡ outputOf taps line → b ≡ clipOf taps line → line ≡ new
+    → stepped (DoneS y b) line ≡ stepped (DoneS (outputOf taps new) (clipOf taps new)) new
+same-step taps o f l = rw (o, f, l)
 
 output-requires : tie.Need-output-requires
 output-requires c κs =
@@ -43,7 +53,7 @@ wide-requires : tie.Need-wide-requires
 wide-requires c κs = search needs
 
 returns-2 : tie.Need-returns-2
-unfolding outputOf clipOf
+unfolding stepOf outputOf clipOf
 returns-2 c =
     let start = c .before .before .before .before .before .before .before .before .before in
     let a = start .args in
@@ -51,15 +61,15 @@ returns-2 c =
     let left = c .before .before .before .before .before .before .before .if1 .left in
     let pushed = c .before .before .before .before .push in
     let output = c .before .before .output in
-    step-done (taps .result) _ (a .taps .now) (history (a .state)) (a .x) (taps .ensures) left (pushed .last .0) _ _
-    (rw (toZ-ofZ {w = w16} (start .fits .x)) at (pushed .ensures))
-    (
+    let line : pushed .last .0 ≡ next (history (a .state)) (a .x) = rw (toZ-ofZ {w = w16} (start .fits .x)) at (pushed .ensures) in
+    let value : toZ w64 (ofZ w64 (c .wide .result)) ≡ outputOf (a .taps .now) (pushed .last .0) =
     ok-back w64 (c .wide .result) (c .wide .ok)
     ∙ c .wide .ensures
     ∙ ok-back w16 (output .result .value) (c .before .struct-told .given .0 .1)
     ∙ ap (λ (h : Held). h .value) (output .ensures)
-    )
-    (ap (λ (h : Held). h .clipped) (output .ensures))
+    in
+    let flag : output .result .clipped ≡ clipOf (a .taps .now) (pushed .last .0) = ap (λ (h : Held). h .clipped) (output .ensures) in
+    same-step (a .taps .now) value flag line ∙ goes-on _ _ _ _ (taps .ensures) left
 
 pub step-spec : {M : Type 1} → statement M
 step-spec =
