@@ -2,6 +2,7 @@ pub mod Block
 pub mod Cases
 pub mod Drive
 pub mod Head
+pub mod Line
 pub mod Meaning
 pub mod Promise
 pub mod Range

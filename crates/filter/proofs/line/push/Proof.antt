@@ -1,54 +1,47 @@
--- `line::push` meets its contract. The loop's invariant: the first i + 1 places are x and the first i old samples. The measure is what is left.
--- Assumes nothing.
+-- `line::push` meets its contract. The loop's invariant: the first i places are those of x and the old line behind it, the rest is the old line's,
+-- and the sample in hand is the next. The measure is what is left. Assumes nothing.
 use borrow.Author.Needs.{needs}
-use mathlib.Core.Path.{_≡_}
-use mathlib.Core.List.{_∷_}
+use mathlib.Core.Path.{_≡_, refl, _∙_}
+use mathlib.Core.List.{_∷_, _++_}
 use Prim.Native.Nat.{_+_, _-_, _≤_}
+use native.Mathlib.Numerals.{add-one}
 use native.Mathlib.Omega.{arith}
 use lib.IntN.{pos}
-use lib.ListN.{length, take, getD, length-set}
-use lib.Seq.{take-suc-set, take-all}
+use lib.ListN.{length, take, drop, getD}
 use mir.Syntax.{w16}
-use mir.Val.{toZ}
+use mir.Val.{toZ, ofZ}
 use mir.Facts.{toZ-ofZ}
-use Rattle.laws.specs.Lists.{shift-step}
 use Rattle.laws.specs.Signed.{ok-back}
 use Rattle.filter.specs.Meaning.{mostTaps, next}
+use Rattle.filter.specs.Line.{old-here, new-here, all-new}
 use Rattle.filter.proofs.line.push.Statement.{statement}
 use Rattle.filter.proofs.line.push.Tie as tie
 use Rattle.filter.proofs.line.push.Reads as reads
 use Rattle.filter.proofs.line.push.Lts as lts
 
 abbrev Inv-loop : tie.InvT-loop
-Inv-loop line₀ x old i₀ line i =
-    (i + 1 ≤ mostTaps) × ((length old ≡ mostTaps) × ((length line ≡ mostTaps) × (take (i + 1) line ≡ toZ w16 x ∷ take i old)))
+Inv-loop line₀ x carried₀ i₀ line carried i =
+    (i ≤ mostTaps)
+    × ((length line₀ ≡ mostTaps)
+    × ((line ≡ take i (toZ w16 x ∷ line₀) ++ drop i line₀) × (toZ w16 carried ≡ getD (toZ w16 x ∷ line₀) i (pos 0))))
 
 abbrev μ-loop : tie.MeasureT-loop
-μ-loop line₀ x old i₀ line i = mostTaps - i
-
-element-set-from-x : tie.Need-element-set-from-x Inv-loop μ-loop
-element-set-from-x c = search needs
+μ-loop line₀ x carried₀ i₀ line carried i = mostTaps - i
 
 loop-holds : tie.Need-loop-holds Inv-loop μ-loop
-loop-holds c = (omega arith, (c .before .pre, (simp length-set (c .before .pre), take-suc-set (c .before .args .line .now) 0 _ (omega (arith, c .before .pre)))))
+loop-holds c = (omega arith, (c .pre, (refl, refl)))
 
-sub-loop : tie.Need-sub-loop Inv-loop μ-loop
-sub-loop c = search needs
+mul-here : tie.Need-mul-here Inv-loop μ-loop
+mul-here c = search needs
 
-mul-v : tie.Need-mul-v Inv-loop μ-loop
-mul-v c = search needs
+element-copy-out-here : tie.Need-element-copy-out-here Inv-loop μ-loop
+element-copy-out-here c = search needs
 
-array-copy-out-v : tie.Need-array-copy-out-v Inv-loop μ-loop
-array-copy-out-v c = search needs
+mul-carried : tie.Need-mul-carried Inv-loop μ-loop
+mul-carried c = search needs
 
-add-v : tie.Need-add-v Inv-loop μ-loop
-add-v c = search needs
-
-mul-v-2 : tie.Need-mul-v-2 Inv-loop μ-loop
-mul-v-2 c = search needs
-
-element-set-from-v : tie.Need-element-set-from-v Inv-loop μ-loop
-element-set-from-v c = search needs
+element-set-from-carried : tie.Need-element-set-from-carried Inv-loop μ-loop
+element-set-from-carried c = search needs
 
 add-i : tie.Need-add-i Inv-loop μ-loop
 add-i c = search needs
@@ -58,15 +51,18 @@ loop-less c = search needs
 
 loop-again : tie.Need-loop-again Inv-loop μ-loop
 loop-again c =
-    let old = c .before .before .before .before .args .line .now in
-    let i = c .before .before .loop .i in
-    let inv = c .before .before .loop .inv in (
+    let start = c .before .before .before in
+    let loop = c .before .before .loop in
+    let inv = loop .inv in
+    let old = start .args .line .now in
+    let new = toZ w16 (ofZ w16 (start .args .x)) ∷ old in
+    let here = old-here old new (loop .line) (pos 0) (loop .i) (omega arith) (omega arith) (inv .1 .1 .0) in (
       omega arith,
       (
         inv .1 .0,
         (
-          simp length-set (inv .1 .1 .0),
-          shift-step old (c .before .before .loop .line) i (pos 0) _ _ (omega arith) (omega arith) (inv .1 .1 .1) (ok-back w16 (getD old i (pos 0)) (c .v .given)),
+          new-here old new (loop .line) (pos 0) (loop .i) (omega arith) (omega arith) (inv .1 .1 .0) _ (inv .1 .1 .1),
+          rw (add-one (loop .i)) (ok-back w16 (getD (loop .line) (loop .i) (pos 0)) (c .here .given) ∙ here),
         ),
       ),
     )
@@ -74,9 +70,10 @@ loop-again c =
 returns : tie.Need-returns Inv-loop μ-loop
 unfolding next
 returns c =
-    let last : c .before .loop .i ≡ mostTaps - 1 = omega arith in
-    let whole = take-all (c .before .loop .i + 1) (c .before .loop .line) (omega arith) in
-    rw (whole, last, toZ-ofZ {w = w16} (c .before .before .before .fits .x)) at (c .before .loop .inv .1 .1 .1)
+    let start = c .before .before in
+    let loop = c .before .loop in
+    let end : loop .i ≡ mostTaps = omega arith in
+    rw (toZ-ofZ {w = w16} (start .fits .x), end) at (all-new (start .args .line .now) _ (loop .line) (loop .i) (omega arith) (loop .inv .1 .1 .0))
 
 pub push-spec : {M : Type 1} → statement M
 push-spec =
@@ -84,14 +81,11 @@ push-spec =
     (tie.spec
     Inv-loop
     μ-loop
-    element-set-from-x
     loop-holds
-    sub-loop
-    mul-v
-    array-copy-out-v
-    add-v
-    mul-v-2
-    element-set-from-v
+    mul-here
+    element-copy-out-here
+    mul-carried
+    element-set-from-carried
     add-i
     loop-less
     loop-again
