@@ -69,12 +69,13 @@ impl Random {
     // taps whose absolute values sum to about 2^15, so that a sum of samples comes within a few steps of an end of the range
     fn edge(&mut self, n: usize) -> Vec<i16> {
         let mut left = 32768 + self.below(9) as i64 - 4;
+        let mixed = self.below(2) == 0; // verdict 2 needs taps of one sign
         let mut taps = Vec::new();
         for k in 0..n {
             let part = if k + 1 == n { left } else { self.below(1 + 2 * left as u64 / (n - k) as u64) as i64 };
             let part = part.min(32767).min(left);
             left -= part;
-            taps.push(if self.below(3) == 0 { -part } else { part } as i16);
+            taps.push(if mixed && self.below(3) == 0 { -part } else { part } as i16);
         }
         taps
     }

@@ -16,7 +16,7 @@ fn bit(b: bool) -> u8
 }
 
 // Each sample into the line, its output and its clip byte into their places. The number of outputs that clipped.
-pub fn through(
+pub(crate) fn through(
     taps: &[i16],
     line: &mut [i16; TAPS],
     samples: &[i16],

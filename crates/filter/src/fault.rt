@@ -3,12 +3,12 @@ ghost use mathlib.Core.Path.{_≡_};
 ghost use Rattle.filter.specs.Meaning.{tapsFault, blockFault, headFault};
 use super::TAPS;
 
-pub const UNEQUAL: u32 = 5;
+pub(crate) const UNEQUAL: u32 = 5;
 
-pub const WRONG_TAPS: u32 = 40;
+pub(crate) const WRONG_TAPS: u32 = 40;
 
 // Taps not 1 to 64.
-pub fn taps(n: usize) -> u32
+pub(crate) fn taps(n: usize) -> u32
     ensures { λ r. ⌜ r ≡ tapsFault n ⌝ }
 {
     if n == 0 {
@@ -21,7 +21,7 @@ pub fn taps(n: usize) -> u32
 }
 
 // Samples, outputs and clip bytes, one of each for each of the others.
-pub fn block(n: usize, samples: usize, outputs: usize, clips: usize) -> u32
+pub(crate) fn block(n: usize, samples: usize, outputs: usize, clips: usize) -> u32
     ensures { λ r. ⌜ r ≡ blockFault n samples outputs clips ⌝ }
 {
     if samples != outputs {
@@ -34,7 +34,7 @@ pub fn block(n: usize, samples: usize, outputs: usize, clips: usize) -> u32
 }
 
 // A place of the witness for each tap.
-pub fn headroom(n: usize, places: usize) -> u32
+pub(crate) fn headroom(n: usize, places: usize) -> u32
     ensures { λ r. ⌜ r ≡ headFault n places ⌝ }
 {
     if n != places {

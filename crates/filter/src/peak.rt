@@ -8,7 +8,7 @@ use super::TAPS;
 use super::sum;
 
 // The two ways to clip.
-pub enum Way {
+pub(crate) enum Way {
     High,
     Low,
 }
@@ -66,7 +66,7 @@ fn keep(line: &[i16; TAPS], witness: &mut [i16])
 }
 
 // The verdict: the filter's own sum of the driven samples, rounded as the filter rounds, against the ends of the range.
-pub fn verdict(taps: &[i16], witness: &mut [i16]) -> u64
+pub(crate) fn verdict(taps: &[i16], witness: &mut [i16]) -> u64
     requires { ⌜ length (now taps) ≤ mostTaps ⌝ }
     requires { ⌜ length (now witness) ≡ length (now taps) ⌝ }
     ensures { λ r. ⌜ (r ≡ verdictOf (now (taps .entry))) × (now (witness .exit) ≡ witnessOf (now (taps .entry)) (now (witness .entry))) ⌝ }

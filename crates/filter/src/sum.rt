@@ -8,20 +8,20 @@ ghost use Rattle.filter.specs.Sum.{heldOf};
 use super::TAPS;
 
 // An output, and whether holding changed it.
-pub struct Held {
+pub(crate) struct Held {
     pub value: i16,
     pub clipped: bool,
 }
 
 // The exact product of a tap and a sample: at most 2^30 either way.
-pub fn product(tap: i16, sample: i16) -> i64
+pub(crate) fn product(tap: i16, sample: i16) -> i64
     ensures { λ r. ⌜ r ≡ tap *ℤ sample ⌝ }
 {
     ((tap as i32) * (sample as i32)) as i64
 }
 
 // The exact sum of the products. A plain loop, so that the compiler can take several products at a time.
-pub fn dot(taps: &[i16], line: &[i16; TAPS]) -> i64
+pub(crate) fn dot(taps: &[i16], line: &[i16; TAPS]) -> i64
     requires { ⌜ length (now taps) ≤ mostTaps ⌝ }
     requires { ⌜ length (now line) ≡ mostTaps ⌝ }
     ensures { λ r. ⌜ r ≡ sumOf (now (taps .entry)) (now (line .entry)) ⌝ }
@@ -38,14 +38,14 @@ pub fn dot(taps: &[i16], line: &[i16; TAPS]) -> i64
 }
 
 // P / 2^15 as an integer raw. The shift keeps the sign, so it rounds toward minus infinity.
-pub fn round(p: i64) -> i64
+pub(crate) fn round(p: i64) -> i64
     ensures { λ r. ⌜ r ≡ rounded p ⌝ }
 {
     p >> 15
 }
 
 // The output before it is held.
-pub fn level(taps: &[i16], line: &[i16; TAPS]) -> i64
+pub(crate) fn level(taps: &[i16], line: &[i16; TAPS]) -> i64
     requires { ⌜ length (now taps) ≤ mostTaps ⌝ }
     requires { ⌜ length (now line) ≡ mostTaps ⌝ }
     ensures { λ r. ⌜ r ≡ levelOf (now (taps .entry)) (now (line .entry)) ⌝ }
@@ -54,7 +54,7 @@ pub fn level(taps: &[i16], line: &[i16; TAPS]) -> i64
 }
 
 // A number held to the range of a sample.
-pub fn hold(y: i64) -> Held
+pub(crate) fn hold(y: i64) -> Held
     ensures { λ r. ⌜ r ≡ heldOf y ⌝ }
 {
     if y < -32768 {
@@ -76,7 +76,7 @@ pub fn hold(y: i64) -> Held
 }
 
 // The output for a line of samples, with its clip flag.
-pub fn output(taps: &[i16], line: &[i16; TAPS]) -> Held
+pub(crate) fn output(taps: &[i16], line: &[i16; TAPS]) -> Held
     requires { ⌜ length (now taps) ≤ mostTaps ⌝ }
     requires { ⌜ length (now line) ≡ mostTaps ⌝ }
     ensures { λ r. ⌜ r ≡ heldOf (levelOf (now (taps .entry)) (now (line .entry))) ⌝ }
@@ -85,7 +85,7 @@ pub fn output(taps: &[i16], line: &[i16; TAPS]) -> Held
 }
 
 // A sample in the width of an answer's value.
-pub fn wide(x: i16) -> i64
+pub(crate) fn wide(x: i16) -> i64
     ensures { λ r. ⌜ r ≡ x ⌝ }
 {
     x as i64
