@@ -7,8 +7,8 @@ use Prim.Native.Nat.{ℕ, _+_, _-_, _^_}
 use lib.IntN.{ℤ, pos, negsuc}
 use lib.ListN.{length, replicate}
 use lib.Signed.{ltZ}
-use Rattle.format.specs.Meaning.{lowest, highest, fits, hold}
 use Rattle.format.specs.declared.UnsignedAnswer.the-variants.{Done, Refused}
+use Rattle.format.specs.Meaning.{lowest, highest, fits, hold}
 use Rattle.filter.specs.declared.peak.Way.the-variants.{High, Low}
 use Rattle.filter.specs.Meaning.{mostTaps, sumOf, rounded, held, clips, levelOf, outputOf, clipOf, bySign, drivenOf, driving, passes, clipsWay, verdictOf, witnessOf, tapsFault, headFault}
 use Rattle.filter.specs.Promise.{unless, headed, headroomOf}

@@ -1,21 +1,21 @@
 -- No samples reach further than the driving ones: of a term, of the sum, of the level. Both ways at once: `Within way a b` is a ≤ b on the way high
 -- and b ≤ a on the way low. Of the rounding only that it keeps the order is used. Assumes nothing.
-use mathlib.Core.Path.{_≡_, refl, sym, ap, _∙_}
+use mathlib.Core.Path.{_≡_, refl, sym, _∙_}
 use mathlib.Core.Bool.{Bool, true, false}
 use mathlib.Core.List.{List, [], _∷_}
-use Prim.Native.Nat.{ℕ, zero, suc, _+_, _*_, _≤_}
+use Prim.Native.Nat.{ℕ, zero, suc}
 use native.Mathlib.Nat.{mul-le-mul-left}
-use lib.IntN.{ℤ, pos, negsuc, _+ℤ_, _*ℤ_, *ℤ-comm, +ℤ-idr}
-use lib.Signed.{ltZ, _≤ℤ_, _<ℤ_, ≤ℤ-refl}
-use Rattle.laws.specs.Diff.{up, dn, le-out, le-in, add-out, up-mul, dn-mul, orders}
-use Rattle.laws.specs.Order.{≤ℤ-<ℤ-trans, +ℤ-mono, mul-out, *ℤ-mono-pos}
+use lib.IntN.{ℤ, pos, negsuc, _+ℤ_, _*ℤ_, *ℤ-comm}
+use lib.Signed.{_≤ℤ_, _<ℤ_, ≤ℤ-refl}
+use Rattle.laws.specs.Diff.{le-out, add-out, up-mul, dn-mul, orders}
+use Rattle.laws.specs.Order.{+ℤ-mono, mul-out, *ℤ-mono-pos}
 use Rattle.laws.specs.Signed.{signed}
 use Rattle.laws.specs.Tests.{ltZ-true, lt-ltZ}
 use Rattle.format.specs.Meaning.{lowest, highest, fits}
 use Rattle.filter.specs.declared.peak.Way.{Way}
 use Rattle.filter.specs.declared.peak.Way.the-variants.{High, Low}
 use Rattle.filter.specs.Meaning.{sumOf, rounded, levelOf, bySign, drivenOf, driving, passes, clipsWay}
-use Rattle.filter.specs.Range.{never, Sample, Samples, none, more, sample-out}
+use Rattle.filter.specs.Range.{never, Sample, Samples, more, sample-out}
 use Rattle.filter.specs.Rounding.{rounded-mono}
 
 pub data Within : Way → ℤ → ℤ → Type 0 where

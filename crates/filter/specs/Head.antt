@@ -1,13 +1,12 @@
 -- The verdict as the code has it: the filter's level on a line that starts with the driving samples. Assumes nothing.
-use mathlib.Core.Path.{_≡_, refl, sym, _∙_}
+use mathlib.Core.Path.{_≡_}
 use mathlib.Core.Bool.{Bool, true, false}
 use mathlib.Core.List.{List}
-use Prim.Native.Nat.{ℕ}
 use lib.IntN.{ℤ}
 use lib.ListN.{length, take}
 use Rattle.filter.specs.declared.peak.Way.{Way}
 use Rattle.filter.specs.declared.peak.Way.the-variants.{High, Low}
-use Rattle.filter.specs.Meaning.{sumOf, levelOf, driving, passes, clipsWay, verdictOf, witnessOf}
+use Rattle.filter.specs.Meaning.{levelOf, driving, passes, clipsWay, verdictOf, witnessOf}
 use Rattle.filter.specs.Sum.{sum-take}
 
 -- the test of the level is the test of the meaning

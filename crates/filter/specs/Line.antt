@@ -1,7 +1,7 @@
 -- A list that is turned into another in place: after i places it is the first i of the new one, m, and the rest of the old one, l.
 -- What is read at i is the old element; what is put there is the new one, and then i + 1 places are done. Assumes nothing.
-use mathlib.Core.Path.{_≡_, refl}
-use mathlib.Core.List.{List, _∷_, _++_, append-assoc, append-nil}
+use mathlib.Core.Path.{_≡_}
+use mathlib.Core.List.{List, _++_, append-assoc, append-nil}
 use Prim.Native.Nat.{ℕ, suc, _+_, _≤_, _<_}
 use native.Mathlib.Numerals.{add-one}
 use native.Mathlib.Omega.{arith}

@@ -5,7 +5,7 @@ use mathlib.Core.List.{List, [], _∷_, map}
 use Prim.Native.Nat.{ℕ, _+_, _^_}
 use lib.Dec.{leb, eqb}
 use lib.IntN.{ℤ, pos, _+ℤ_, _*ℤ_}
-use lib.ListN.{length, take, replicate}
+use lib.ListN.{take, replicate}
 use lib.Signed.{ltZ}
 use Rattle.laws.specs.Floor.{floor}
 use Rattle.format.specs.Meaning.{signed, lowest, highest, fits, hold}

@@ -6,11 +6,11 @@ use Prim.Native.Nat.{ℕ, zero, suc}
 use lib.Dec.{T}
 use lib.IntN.{ℤ, pos, negsuc}
 use lib.ListN.{take, replicate}
-use lib.Signed.{ltZ, leZ, _≤ℤ_, _<ℤ_}
+use lib.Signed.{ltZ, leZ, _≤ℤ_}
 use mir.Syntax.{w16}
 use mir.Val.{SFits}
 use Rattle.laws.specs.Signed.{signed}
-use Rattle.laws.specs.Tests.{ltZ-true, ltZ-false, leZ-true, leZ-false, lt-ltZ, le-ltZ, le-leZ, lt-leZ}
+use Rattle.laws.specs.Tests.{ltZ-true, ltZ-false, leZ-true, le-ltZ, le-leZ, lt-leZ}
 use Rattle.format.specs.Meaning.{signed as Signed, lowest, highest, fits, hold}
 use Rattle.filter.specs.declared.peak.Way.{Way}
 use Rattle.filter.specs.declared.peak.Way.the-variants.{High, Low}

@@ -1,6 +1,6 @@
 -- The laws of the rounding: it keeps the order and 0, and it is off by less than one step. Nothing above looks further into it. Assumes nothing.
 use mathlib.Core.Path.{_≡_, refl}
-use Prim.Native.Nat.{_*_, _^_, _<_}
+use Prim.Native.Nat.{_^_, _<_}
 use native.Mathlib.Omega.{arith}
 use lib.Dec.{lit<}
 use lib.IntN.{ℤ, pos, natAbs, _-ℤ_, _*ℤ_}
@@ -9,7 +9,6 @@ use Rattle.laws.specs.Diff.{sub-out}
 use Rattle.laws.specs.Bound.{abs-in}
 use Rattle.laws.specs.Order.{mul-out}
 use Rattle.laws.specs.Floor.{floor-out, shrZ-mono}
-use Rattle.laws.specs.Signed.{signed}
 use Rattle.filter.specs.Meaning.{rounded}
 
 pub rounded-mono : {a b : ℤ} → a ≤ℤ b → rounded a ≤ℤ rounded b

@@ -6,8 +6,8 @@ use native.Mathlib.Numerals.{add-one}
 use lib.IntN.{ℤ, pos, _+ℤ_, _*ℤ_}
 use lib.ListN.{length, drop, take, getD}
 use lib.Seq.{drop-cons, drop-length}
-use Rattle.filter.specs.Meaning.{sumOf, held, clips}
 use Rattle.filter.specs.declared.sum.Held.{Held}
+use Rattle.filter.specs.Meaning.{sumOf, held, clips}
 
 abbrev pub heldOf : ℤ → Held
 heldOf y = record { value = held y; clipped = clips y }

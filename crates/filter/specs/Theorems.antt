@@ -1,28 +1,28 @@
 -- The facts that the filter and the headroom check are for, stated of the meaning of the filter itself. Assumes nothing.
-use mathlib.Core.Path.{_≡_, refl, sym, ap, _∙_}
+use mathlib.Core.Path.{_≡_, refl, sym, _∙_}
 use mathlib.Core.Logic.{_↔_}
-use mathlib.Core.Bool.{Bool, true, false, cond}
-use mathlib.Core.List.{List, [], _∷_, _++_, map, reverse, reverse-reverse, reverse-cons, append-assoc}
-use Prim.Native.Nat.{ℕ, zero, suc, _+_, _*_, _-_, _^_, _≤_, _<_}
+use mathlib.Core.Bool.{Bool, true, false}
+use mathlib.Core.List.{List, [], _∷_, _++_, reverse, reverse-reverse}
+use Prim.Native.Nat.{_+_, _*_, _^_, _≤_, _<_}
 use native.Mathlib.Omega.{arith}
-use lib.IntN.{ℤ, pos, negsuc, natAbs, _+ℤ_, _-ℤ_, _*ℤ_}
+use lib.IntN.{ℤ, pos, natAbs, _-ℤ_, _*ℤ_}
 use lib.ListN.{length, take, length-map, length-reverse}
-use lib.Seq.{take-take, take-all, take-at}
+use lib.Seq.{take-take, take-at}
 use mir.Syntax.{w64}
 use mir.Val.{SFits}
 use Rattle.laws.specs.Bound.{abs-add-le, abs-sfits, sfits-mul}
-use Rattle.format.specs.Meaning.{valueS, flagS}
 use Rattle.format.specs.declared.SignedAnswer.the-variants.{Done}
+use Rattle.format.specs.Meaning.{valueS, flagS}
 use Rattle.filter.specs.declared.Stepped.{Stepped}
 use Rattle.filter.specs.declared.peak.Way.{Way}
 use Rattle.filter.specs.declared.peak.Way.the-variants.{High, Low}
 use Rattle.filter.specs.Meaning.{mostTaps, history, silence, next, sumOf, rounded, held, clips, levelOf, outputOf, clipOf, after, outputsOf, clipsOf, Run, runOf, bitOf, clipped, tapsFault, drivenOf, driving, passes, clipsWay, verdictOf, witnessOf}
 use Rattle.filter.specs.Promise.{unless, stepped, stepOf}
-use Rattle.filter.specs.Range.{never, Sample, Samples, none, more, sample-sfits, driven-sample, samples-after, samples-next, zero-inside, samples-reverse, samples-zeros, endOf, Lies, past, inside, lies, past-clips, inside-keeps, past-one, past-end, clips-past}
+use Rattle.filter.specs.Range.{never, Samples, none, more, sample-sfits, driven-sample, samples-after, samples-next, zero-inside, samples-reverse, samples-zeros, endOf, Lies, past, inside, lies, past-clips, inside-keeps, past-end, clips-past}
 use Rattle.filter.specs.Rounding.{rounded-zero, rounded-near}
 use Rattle.filter.specs.Run.{after-append, outputs-append, clips-append, after-is}
 use Rattle.filter.specs.Sum.{sum-take}
-use Rattle.filter.specs.Drive.{Within, within-refl, sum-within, never-passes}
+use Rattle.filter.specs.Drive.{Within, sum-within, never-passes}
 
 -- ---- One output.
 -- "the clip flag is set exactly if holding changed it"

@@ -1,20 +1,16 @@
 -- `headroom` meets its promise: where the call is refused, nothing is done; else the verdict's own equations. Assumes nothing.
 use mathlib.Core.Path.{_≡_, sym, _∙_}
-use lib.ListN.{length}
-use Rattle.filter.specs.Refuse.{head-fit, refuses, goes-on}
-use Rattle.filter.specs.Promise.{headed, headroomOf}
-use Rattle.format.specs.declared.UnsignedAnswer.the-variants.{Done as DoneU}
 use mathlib.Core.Bool.{false}
 use mathlib.Core.List.{List}
 use Prim.Native.Nat.{ℕ}
+use lib.ListN.{length}
 use lib.IntN.{ℤ}
 use borrow.Author.Needs.{needs}
+use Rattle.format.specs.declared.UnsignedAnswer.the-variants.{Done as DoneU}
+use Rattle.filter.specs.Refuse.{head-fit, refuses, goes-on}
+use Rattle.filter.specs.Promise.{headed, headroomOf}
 use Rattle.filter.proofs.headroom.Statement.{statement}
 use Rattle.filter.proofs.headroom.Tie as tie
-use Rattle.filter.proofs.headroom.Reads as reads
-use Rattle.filter.proofs.headroom.Lts as lts
-use Rattle.filter.proofs.fault.headroom.Reads as headroom-reads
-use Rattle.filter.proofs.peak.verdict.Reads as verdict-reads
 
 headroom-requires : tie.Need-headroom-requires
 headroom-requires c κs = search needs

@@ -1,24 +1,19 @@
 -- `run` meets its promise: where the call is refused, nothing is done; else the block is through, and the line, which was the state, is the state again.
 -- Assumes nothing.
 use mathlib.Core.Path.{_≡_, sym, _∙_}
+use mathlib.Core.Bool.{false}
+use mathlib.Core.List.{List}
+use Prim.Native.Nat.{ℕ}
 use lib.ListN.{length}
+use lib.IntN.{ℤ}
+use borrow.Author.Needs.{needs}
+use Rattle.format.specs.declared.UnsignedAnswer.the-variants.{Done as DoneU}
 use Rattle.filter.specs.Refuse.{block-fit, refuses, goes-on}
 use Rattle.filter.specs.Block.{Through}
 use Rattle.filter.specs.Meaning.{stateOf, runOf}
 use Rattle.filter.specs.Promise.{ran, done, ranOf}
-use Rattle.format.specs.declared.UnsignedAnswer.the-variants.{Done as DoneU}
-use mathlib.Core.Bool.{false}
-use mathlib.Core.List.{List}
-use Prim.Native.Nat.{ℕ}
-use lib.IntN.{ℤ}
-use borrow.Author.Needs.{needs}
 use Rattle.filter.proofs.run.Statement.{statement}
 use Rattle.filter.proofs.run.Tie as tie
-use Rattle.filter.proofs.run.Reads as reads
-use Rattle.filter.proofs.run.Lts as lts
-use Rattle.filter.proofs.block.through.Reads as through-reads
-use Rattle.filter.proofs.fault.block.Reads as block-reads
-use Rattle.filter.proofs.line.whole.Reads as whole-reads
 
 block-requires : tie.Need-block-requires
 block-requires c κs = search needs

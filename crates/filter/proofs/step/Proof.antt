@@ -1,28 +1,22 @@
 -- `step` meets its promise: where the number of taps is refused, nothing is done; else the callees' equations, one in the other. Assumes nothing.
+use mathlib.Core.Path.{_≡_, ap, _∙_, sym}
+use mathlib.Core.Bool.{Bool}
+use mathlib.Core.List.{List}
 use lib.ListN.{length}
+use lib.IntN.{ℤ}
+use borrow.Author.Needs.{needs}
 use mir.Syntax.{w16, w64}
 use mir.Facts.{toZ-ofZ}
+use mir.Val.{toZ, ofZ}
 use Rattle.laws.specs.Signed.{ok-back}
-use Rattle.filter.specs.Run.{next-length}
+use Rattle.format.specs.declared.SignedAnswer.the-variants.{Done as DoneS}
 use Rattle.filter.specs.declared.sum.Held.{Held}
-use mathlib.Core.Path.{_≡_, ap, _∙_, sym}
+use Rattle.filter.specs.Run.{next-length}
 use Rattle.filter.specs.Meaning.{mostTaps, history, next, outputOf, clipOf}
 use Rattle.filter.specs.Refuse.{taps-few, refuses, goes-on}
 use Rattle.filter.specs.Promise.{stepped, stepOf}
-use Rattle.format.specs.declared.SignedAnswer.the-variants.{Done as DoneS}
-use mathlib.Core.Bool.{Bool}
-use mathlib.Core.List.{List}
-use lib.IntN.{ℤ}
-use mir.Val.{toZ, ofZ}
-use borrow.Author.Needs.{needs}
 use Rattle.filter.proofs.step.Statement.{statement}
 use Rattle.filter.proofs.step.Tie as tie
-use Rattle.filter.proofs.step.Reads as reads
-use Rattle.filter.proofs.step.Lts as lts
-use Rattle.filter.proofs.fault.taps.Reads as taps-reads
-use Rattle.filter.proofs.line.push.Reads as push-reads
-use Rattle.filter.proofs.sum.output.Reads as output-reads
-use Rattle.filter.proofs.sum.wide.Reads as wide-reads
 
 taps-requires : tie.Need-taps-requires
 taps-requires c κs = search needs

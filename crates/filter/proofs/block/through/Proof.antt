@@ -1,25 +1,18 @@
 -- `block::through` meets its contract. The loop's invariant: the first i samples are through. The measure is what is left of the block.
 -- Assumes nothing.
-use borrow.Author.Needs.{needs}
-use mathlib.Core.Path.{_≡_, ap, _∙_}
-use mathlib.Core.List.{List}
-use Prim.Native.Nat.{ℕ, _+_, _-_, _≤_}
-use native.Mathlib.Omega.{arith}
-use lib.IntN.{ℤ, pos}
+use mathlib.Core.Path.{ap, _∙_}
+use Prim.Native.Nat.{_-_}
+use lib.IntN.{pos}
 use lib.ListN.{length, getD}
+use borrow.Author.Needs.{needs}
 use mir.Syntax.{w16}
 use Rattle.laws.specs.Signed.{ok-back}
-use Rattle.filter.specs.Meaning.{mostTaps, bitOf, outputOf, clipOf}
-use Rattle.filter.specs.Run.{next-length}
 use Rattle.filter.specs.declared.sum.Held.{Held}
+use Rattle.filter.specs.Meaning.{bitOf, outputOf, clipOf}
+use Rattle.filter.specs.Run.{next-length}
 use Rattle.filter.specs.Block.{SoFar, start, more, end}
 use Rattle.filter.proofs.block.through.Statement.{statement}
 use Rattle.filter.proofs.block.through.Tie as tie
-use Rattle.filter.proofs.block.through.Reads as reads
-use Rattle.filter.proofs.block.through.Lts as lts
-use Rattle.filter.proofs.block.bit.Reads as bit-reads
-use Rattle.filter.proofs.line.push.Reads as push-reads
-use Rattle.filter.proofs.sum.output.Reads as output-reads
 
 abbrev Inv-loop : tie.InvT-loop
 Inv-loop taps line₀ samples outputs₀ clips₀ count₀ i₀ line outputs clips count i = SoFar taps line₀ samples i line outputs clips count

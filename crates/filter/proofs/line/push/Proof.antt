@@ -1,13 +1,13 @@
 -- `line::push` meets its contract. The loop's invariant: the first i places are those of x and the old line behind it, the rest is the old line's,
 -- and the sample in hand is the next. The measure is what is left. Assumes nothing.
-use borrow.Author.Needs.{needs}
 use mathlib.Core.Path.{_≡_, refl, _∙_}
 use mathlib.Core.List.{_∷_, _++_}
-use Prim.Native.Nat.{_+_, _-_, _≤_}
+use Prim.Native.Nat.{_-_, _≤_}
 use native.Mathlib.Numerals.{add-one}
 use native.Mathlib.Omega.{arith}
 use lib.IntN.{pos}
 use lib.ListN.{length, take, drop, getD}
+use borrow.Author.Needs.{needs}
 use mir.Syntax.{w16}
 use mir.Val.{toZ, ofZ}
 use mir.Facts.{toZ-ofZ}
@@ -16,8 +16,6 @@ use Rattle.filter.specs.Meaning.{mostTaps, next}
 use Rattle.filter.specs.Line.{old-here, new-here, all-new}
 use Rattle.filter.proofs.line.push.Statement.{statement}
 use Rattle.filter.proofs.line.push.Tie as tie
-use Rattle.filter.proofs.line.push.Reads as reads
-use Rattle.filter.proofs.line.push.Lts as lts
 
 abbrev Inv-loop : tie.InvT-loop
 Inv-loop line₀ x carried₀ i₀ line carried i =

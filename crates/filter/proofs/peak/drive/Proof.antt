@@ -1,22 +1,19 @@
 -- `peak::drive` meets its contract. The loop's invariant: the first i places hold the driven samples of the first i taps. The measure is what is left.
 -- Assumes nothing.
-use borrow.Author.Needs.{needs}
 use mathlib.Core.Path.{_≡_, refl, _∙_}
 use mathlib.Core.List.{map}
-use Prim.Native.Nat.{_+_, _-_, _≤_}
+use Prim.Native.Nat.{_-_, _≤_}
 use native.Mathlib.Omega.{arith}
 use lib.IntN.{pos}
 use lib.ListN.{length, take, getD, length-set}
 use lib.Seq.{take-length}
+use borrow.Author.Needs.{needs}
 use mir.Syntax.{w16}
 use Rattle.laws.specs.Lists.{map-step}
 use Rattle.laws.specs.Signed.{ok-back}
 use Rattle.filter.specs.Meaning.{mostTaps, drivenOf}
 use Rattle.filter.proofs.peak.drive.Statement.{statement}
 use Rattle.filter.proofs.peak.drive.Tie as tie
-use Rattle.filter.proofs.peak.drive.Reads as reads
-use Rattle.filter.proofs.peak.drive.Lts as lts
-use Rattle.filter.proofs.peak.driven.Reads as driven-reads
 
 abbrev Inv-loop : tie.InvT-loop
 Inv-loop way taps line₀ i₀ line i = (i ≤ length taps) × ((length line ≡ mostTaps) × (take i line ≡ map (drivenOf way) (take i taps)))

@@ -1,19 +1,16 @@
 -- `peak::driven` meets its contract: each way is `by_sign` of its two ends. Assumes nothing.
 use mathlib.Core.Path.{_≡_, _∙_}
-use borrow.Author.Needs.{needs}
 use lib.IntN.{ℤ, pos, negsuc}
+use borrow.Author.Needs.{needs}
 use mir.Syntax.{w16}
 use mir.Facts.{toZ-ofZ}
 use Rattle.laws.specs.Signed.{ok-back}
-use Rattle.format.specs.Meaning.{signed, lowest, highest}
+use Rattle.format.specs.Meaning.{lowest, highest}
 use Rattle.filter.specs.declared.peak.Way.{Way}
 use Rattle.filter.specs.declared.peak.Way.the-variants.{High, Low}
 use Rattle.filter.specs.Meaning.{bySign, drivenOf}
 use Rattle.filter.proofs.peak.driven.Statement.{statement}
 use Rattle.filter.proofs.peak.driven.Tie as tie
-use Rattle.filter.proofs.peak.driven.Reads as reads
-use Rattle.filter.proofs.peak.driven.Lts as lts
-use Rattle.filter.proofs.peak.by_sign.Reads as by-sign-reads
 
 enum-told : tie.Need-enum-told
 enum-told c = search needs

@@ -1,19 +1,17 @@
 -- `peak::keep` meets its contract. The loop's invariant: the first i places hold the first i samples of the line. The measure is what is left.
 -- Assumes nothing.
-use borrow.Author.Needs.{needs}
 use mathlib.Core.Path.{_≡_, refl}
-use Prim.Native.Nat.{_+_, _-_, _≤_}
+use Prim.Native.Nat.{_-_, _≤_}
 use native.Mathlib.Numerals.{add-one}
 use native.Mathlib.Omega.{arith}
 use lib.IntN.{pos}
 use lib.ListN.{length, take, getD, length-set}
 use lib.Seq.{take-suc, take-suc-set, take-all}
+use borrow.Author.Needs.{needs}
 use mir.Syntax.{w16}
 use Rattle.laws.specs.Signed.{ok-back}
 use Rattle.filter.proofs.peak.keep.Statement.{statement}
 use Rattle.filter.proofs.peak.keep.Tie as tie
-use Rattle.filter.proofs.peak.keep.Reads as reads
-use Rattle.filter.proofs.peak.keep.Lts as lts
 
 abbrev Inv-loop : tie.InvT-loop
 Inv-loop line witness₀ i₀ witness i = (i ≤ length witness₀) × ((length witness ≡ length witness₀) × (take i witness ≡ take i line))

@@ -4,6 +4,7 @@ use mathlib.Core.Path.{_≡_, refl, _∙_}
 use mathlib.Core.Bool.{Bool, true, false}
 use lib.IntN.{pos, negsuc}
 use lib.Signed.{ltZ}
+use borrow.Author.Needs.{needs}
 use mir.Syntax.{w64}
 use mir.Val.{toZ, ofZ}
 use Rattle.laws.specs.Signed.{ok-back}
@@ -11,14 +12,8 @@ use Rattle.format.specs.Meaning.{lowest, highest}
 use Rattle.filter.specs.declared.peak.Way.the-variants.{High, Low}
 use Rattle.filter.specs.Meaning.{passes, clipsWay}
 use Rattle.filter.specs.Head.{test-way, verdict-high, verdict-low, verdict-none}
-use borrow.Author.Needs.{needs}
 use Rattle.filter.proofs.peak.verdict.Statement.{statement}
 use Rattle.filter.proofs.peak.verdict.Tie as tie
-use Rattle.filter.proofs.peak.verdict.Reads as reads
-use Rattle.filter.proofs.peak.verdict.Lts as lts
-use Rattle.filter.proofs.peak.drive.Reads as drive-reads
-use Rattle.filter.proofs.peak.keep.Reads as keep-reads
-use Rattle.filter.proofs.sum.level.Reads as level-reads
 
 drive-requires : tie.Need-drive-requires
 drive-requires c κs = search needs

@@ -4,21 +4,18 @@ use mathlib.Core.Path.{_≡_, _∙_}
 use mathlib.Core.List.{List}
 use Prim.Native.Nat.{ℕ, _+_, _*_, _-_, _^_, _≤_}
 use native.Mathlib.Omega.{arith}
-use borrow.Author.Needs.{needs}
 use lib.IntN.{ℤ, pos, natAbs, _+ℤ_, _*ℤ_, +ℤ-idl, +ℤ-idr, +ℤ-assoc}
 use lib.ListN.{length, drop, getD}
+use borrow.Author.Needs.{needs}
 use mir.Syntax.{w16, w64}
 use mir.Val.{SFits, toZ, ofZ}
 use mir.Facts.{toZ-ofZ}
 use Rattle.laws.specs.Bound.{abs-add-le, abs-sfits, sfits-mul}
 use Rattle.laws.specs.Signed.{ok-back}
-use Rattle.filter.specs.Meaning.{mostTaps, sumOf}
+use Rattle.filter.specs.Meaning.{sumOf}
 use Rattle.filter.specs.Sum.{sum-step, sum-end}
 use Rattle.filter.proofs.sum.dot.Statement.{statement}
 use Rattle.filter.proofs.sum.dot.Tie as tie
-use Rattle.filter.proofs.sum.dot.Reads as reads
-use Rattle.filter.proofs.sum.dot.Lts as lts
-use Rattle.filter.proofs.sum.product.Reads as product-reads
 
 abbrev Inv-loop : tie.InvT-loop
 Inv-loop taps line sum₀ i₀ sum i =

@@ -2,7 +2,7 @@
 -- The machine reads each number back from its bits, and each time it is the same number, since it fits. Assumes nothing.
 use native.Mathlib.Omega.{arith}
 use lib.IntN.{ℤ, _*ℤ_}
-use mir.Syntax.{w16, w32, w64}
+use mir.Syntax.{w16, w32}
 use mir.Val.{SFits}
 use mir.Facts.{toZ-ofZ, sfits-widen}
 use Rattle.laws.specs.Bound.{abs-sfits, sfits-mul}

@@ -1,5 +1,5 @@
 -- `sum::wide` meets its contract: a number of 16 bits is one of 64. Assumes nothing.
-use mir.Syntax.{w16, w64}
+use mir.Syntax.{w16}
 use mir.Facts.{toZ-ofZ, sfits-widen}
 use Rattle.filter.proofs.sum.wide.Statement.{statement}
 use Rattle.filter.proofs.sum.wide.Tie as tie
