@@ -64,10 +64,6 @@ by-above n a b =
     let l : pos 0 <ℤ pos (suc n) = omega signed in
     rw (lt-ltZ l)
 
-by-zero : (a b : ℤ) → bySign (pos 0) a b ≡ pos 0
-unfolding bySign
-by-zero a b = refl
-
 by-below : (n : ℕ) (a b : ℤ) → bySign (negsuc n) a b ≡ b
 unfolding bySign
 by-below n a b = refl

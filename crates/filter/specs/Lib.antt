@@ -1,6 +1,7 @@
 pub mod Block
 pub mod Cases
 pub mod Drive
+pub mod Ends
 pub mod Head
 pub mod Line
 pub mod Meaning
@@ -11,3 +12,4 @@ pub mod Rounding
 pub mod Run
 pub mod Sum
 pub mod Theorems
+pub mod Verdict

@@ -67,20 +67,19 @@ samples-after h [] s k = s
 samples-after h (x ∷ xs) s (more a k) = samples-after (next h x) xs (samples-next h x s a) k
 
 -- a driving sample is a sample: by the tap's sign, one of the ends or 0
+by-sign-sample : (t above below : ℤ) → Sample above → Sample below → Sample (bySign t above below)
+unfolding bySign fits lowest highest
+by-sign-sample t above below a b = go (ltZ (pos 0) t) (ltZ t (pos 0))
+  where
+    go : (p n : Bool) → Sample (cond p above (cond n below (pos 0)))
+    go true n = a
+    go false true = b
+    go false false = refl
+
 pub driven-sample : (way : Way) (t : ℤ) → Sample (drivenOf way t)
-unfolding drivenOf bySign fits lowest highest
-driven-sample High t = by (ltZ (pos 0) t) (ltZ t (pos 0))
-  where
-    by : (a b : Bool) → Sample (cond a (pos 32767) (cond b (negsuc 32767) (pos 0)))
-    by true b = refl
-    by false true = refl
-    by false false = refl
-driven-sample Low t = by (ltZ (pos 0) t) (ltZ t (pos 0))
-  where
-    by : (a b : Bool) → Sample (cond a (negsuc 32767) (cond b (pos 32767) (pos 0)))
-    by true b = refl
-    by false true = refl
-    by false false = refl
+unfolding drivenOf fits lowest highest
+driven-sample High t = by-sign-sample t (pos 32767) (negsuc 32767) refl refl
+driven-sample Low t = by-sign-sample t (negsuc 32767) (pos 32767) refl refl
 
 -- the end of the range that way
 unfoldable pub endOf : Way → ℤ
@@ -122,14 +121,7 @@ inside-keeps y h l =
     let k = le-leZ (ltZ-false (pos 32767) y h) in
     (rw (l, k), rw (l, k))
 
--- what is past one end is not past the other, and the number itself is no end
-pub past-one : (y : ℤ) → passes High y ≡ true → passes Low y ≡ true → ⊥
-unfolding passes lowest highest
-past-one y h l =
-    let a = ltZ-true (pos 32767) y h in
-    let b = ltZ-true y (negsuc 32767) l in
-    omega signed
-
+-- a number past an end is not that end
 pub past-end : (way : Way) (y : ℤ) → passes way y ≡ true → endOf way ≡ y → ⊥
 unfolding passes lowest highest endOf
 past-end High y h e =

@@ -1,6 +1,7 @@
 -- What is known where nothing is refused, and what a refusal, or its absence, makes of a promised outcome.
 -- Assumes nothing.
 use mathlib.Core.Path.{_≡_, refl}
+use mathlib.Core.Logic.{_⊎_, inl, inr}
 use mathlib.Core.Bool.{Bool, true, false, cond}
 use Prim.Native.Nat.{ℕ, _≤_}
 use native.Mathlib.Omega.{arith}
@@ -54,3 +55,12 @@ module _ {A : Type 0} (r fault : ℕ) (refused : ℕ → A) (done : A) (e : r �
   pub goes-on : r ≡ 0 → done ≡ unless fault refused done
   unfolding unless
   goes-on z = rw (← e, z)
+
+-- the other way: an outcome is what is done where nothing is refused, or what a refusal leaves
+pub which : {A : Type 0} (fault : ℕ) (refused : ℕ → A) (done : A) {r : A} → r ≡ unless fault refused done → ((fault ≡ 0) × (r ≡ done)) ⊎ (r ≡ refused fault)
+unfolding unless
+which fault refused done {r} e = go (eqb fault 0) refl e
+  where
+    go : (t : Bool) → eqb fault 0 ≡ t → r ≡ cond t done (refused fault) → ((fault ≡ 0) × (r ≡ done)) ⊎ (r ≡ refused fault)
+    go true f e = inl (eqb-true fault 0 f, e)
+    go false f e = inr e

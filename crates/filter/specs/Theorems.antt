@@ -1,28 +1,31 @@
 -- The facts that the filter and the headroom check are for, stated of the meaning of the filter itself. Assumes nothing.
-use mathlib.Core.Path.{_≡_, refl, sym, _∙_}
-use mathlib.Core.Logic.{_↔_}
-use mathlib.Core.Bool.{Bool, true, false}
-use mathlib.Core.List.{List, [], _∷_, _++_, reverse, reverse-reverse}
-use Prim.Native.Nat.{_+_, _*_, _^_, _≤_, _<_}
+use mathlib.Core.Path.{_≡_, refl, sym, ap, _∙_}
+use mathlib.Core.Logic.{_↔_, _⊎_, inl, inr}
+use mathlib.Core.Bool.{true, false}
+use mathlib.Core.List.{List, [], _∷_, _++_, reverse}
+use Prim.Native.Nat.{ℕ, _+_, _*_, _^_, _≤_, _<_}
 use native.Mathlib.Omega.{arith}
 use lib.IntN.{ℤ, pos, natAbs, _-ℤ_, _*ℤ_}
-use lib.ListN.{length, take, length-map, length-reverse}
-use lib.Seq.{take-take, take-at}
+use lib.ListN.{length, take, length-map}
 use mir.Syntax.{w64}
 use mir.Val.{SFits}
 use Rattle.laws.specs.Bound.{abs-add-le, abs-sfits, sfits-mul}
 use Rattle.format.specs.declared.SignedAnswer.the-variants.{Done}
+use Rattle.format.specs.declared.UnsignedAnswer.the-variants.{Done as DoneU, Refused as RefusedU}
 use Rattle.format.specs.Meaning.{valueS, flagS}
+use Rattle.filter.specs.declared.State.{State}
 use Rattle.filter.specs.declared.Stepped.{Stepped}
 use Rattle.filter.specs.declared.peak.Way.{Way}
 use Rattle.filter.specs.declared.peak.Way.the-variants.{High, Low}
-use Rattle.filter.specs.Meaning.{mostTaps, history, silence, next, sumOf, rounded, held, clips, levelOf, outputOf, clipOf, after, outputsOf, clipsOf, Run, runOf, bitOf, clipped, tapsFault, drivenOf, driving, passes, clipsWay, verdictOf, witnessOf}
-use Rattle.filter.specs.Promise.{unless, stepped, stepOf}
-use Rattle.filter.specs.Range.{never, Samples, none, more, sample-sfits, driven-sample, samples-after, samples-next, zero-inside, samples-reverse, samples-zeros, endOf, Lies, past, inside, lies, past-clips, inside-keeps, past-end, clips-past}
-use Rattle.filter.specs.Rounding.{rounded-zero, rounded-near}
+use Rattle.filter.specs.Ends.{Ends, ends-clipped}
+use Rattle.filter.specs.Verdict.{driving-samples, fed, Told, high, low, neither, told, drives, spares, quiet}
+use Rattle.filter.specs.Meaning.{mostTaps, history, silence, next, sumOf, rounded, held, clips, levelOf, outputOf, clipOf, after, outputsOf, clipsOf, Run, runOf, clipped, tapsFault, headFault, blockFault, drivenOf, driving, clipsWay, verdictOf, witnessOf}
+use Rattle.filter.specs.Promise.{unless, stepped, stepOf, Ran, ran, done, ranOf, Runs, Headed, headed, headroomOf, Heads}
+use Rattle.filter.specs.Refuse.{which, head-fit}
+use Rattle.filter.specs.Range.{never, Samples, more, sample-sfits, samples-after, samples-reverse, samples-zeros, Lies, past, inside, lies, past-clips, inside-keeps, past-end}
+use Rattle.filter.specs.Rounding.{rounded-near}
 use Rattle.filter.specs.Run.{after-append, outputs-append, clips-append, after-is}
-use Rattle.filter.specs.Sum.{sum-take}
-use Rattle.filter.specs.Drive.{Within, sum-within, never-passes}
+use Rattle.filter.specs.Drive.{Within, sum-within}
 
 -- ---- One output.
 -- "the clip flag is set exactly if holding changed it"
@@ -94,64 +97,7 @@ pub final-history : (taps h xs : List ℤ) → length h ≤ mostTaps → runOf t
 unfolding runOf
 final-history taps h xs e = after-is h xs e
 
--- ---- How a run ends.
--- the last of a list, d where there is none
-unfoldable pub lastOf : {A : Type 0} → A → List A → A
-lastOf d [] = d
-lastOf d (x ∷ xs) = lastOf x xs
-
--- the last output clips that way: its flag is set, and it is held to that end
-pub record Ends (way : Way) (r : Run) : Type 0 where
-  pub flag : lastOf false (r .flags) ≡ true
-  pub output : lastOf (pos 0) (r .outputs) ≡ endOf way
-
-last-output : (taps h : List ℤ) (d : ℤ) (x : ℤ) (xs : List ℤ) → lastOf d (outputsOf taps h (x ∷ xs)) ≡ outputOf taps (after h (x ∷ xs))
-unfolding lastOf outputsOf after
-last-output taps h d x [] = refl
-last-output taps h d x (y ∷ ys) = last-output taps (next h x) (outputOf taps (next h x)) y ys
-
-last-flag : (taps h : List ℤ) (d : Bool) (x : ℤ) (xs : List ℤ) → lastOf d (clipsOf taps h (x ∷ xs)) ≡ clipOf taps (after h (x ∷ xs))
-unfolding lastOf clipsOf after
-last-flag taps h d x [] = refl
-last-flag taps h d x (y ∷ ys) = last-flag taps (next h x) (clipOf taps (next h x)) y ys
-
--- so a run ends past an end of the range exactly if its last level is
-pub ends-past : (way : Way) (taps h xs : List ℤ) → Ends way (runOf taps h xs) → passes way (levelOf taps (after h xs)) ≡ true
-unfolding runOf lastOf clipsOf outputOf clipOf
-ends-past way taps h [] e = never (e .flag)
-ends-past way taps h (x ∷ xs) e =
-    clips-past way (levelOf taps (after h (x ∷ xs))) (sym (last-flag taps h false x xs) ∙ e .flag) (sym (last-output taps h (pos 0) x xs) ∙ e .output)
-
-pub past-ends : (way : Way) (taps h xs : List ℤ) → 0 < length xs → passes way (levelOf taps (after h xs)) ≡ true → Ends way (runOf taps h xs)
-unfolding runOf outputOf clipOf
-past-ends way taps h [] l p = absurd (omega arith)
-past-ends way taps h (x ∷ xs) l p =
-    let c = past-clips way (levelOf taps (after h (x ∷ xs))) p in
-    record { flag = last-flag taps h false x xs ∙ c .0; output = last-output taps h (pos 0) x xs ∙ c .1 }
-
--- a run that ends in a clip has one
-last-counts : (b : Bool) (flags : List Bool) → lastOf b flags ≡ true → 0 < bitOf b + clipped flags
-unfolding lastOf clipped bitOf
-last-counts true [] e = omega arith
-last-counts false [] e = never e
-last-counts b (f ∷ flags) e = omega (arith, last-counts f flags e)
-
-pub ends-clipped : (way : Way) (r : Run) → Ends way r → 0 < clipped (r .flags)
-unfolding bitOf
-ends-clipped way r e = omega (arith, last-counts false (r .flags) (e .flag))
-
--- ---- The samples that drive the sum furthest.
-pub driving-samples : (way : Way) (taps : List ℤ) → Samples (driving way taps)
-driving-samples way [] = none
-driving-samples way (t ∷ ts) = more (driven-sample way t) (driving-samples way ts)
-
--- fed oldest first, from any state, they are what the taps meet
-fed : (taps w h : List ℤ) → length w ≡ length taps → length taps ≤ mostTaps → length h ≤ mostTaps → sumOf taps (after h (reverse w)) ≡ sumOf taps w
-fed taps w h e few k =
-    let whole : after h (reverse w) ≡ take mostTaps (w ++ h) = after-is h (reverse w) k ∙ rw reverse-reverse in
-    let part : take (length taps) (take mostTaps (w ++ h)) ≡ w = take-take (length taps) mostTaps (w ++ h) few ∙ take-at w h (length taps) e in
-    sym (sum-take taps (after h (reverse w))) ∙ (rw (whole, part))
-
+-- ---- The samples that drive the sum furthest: `driving`, each the end of the range for its tap.
 -- no samples, from any state of samples, drive the sum further; and the bound is attained
 pub furthest : (way : Way) (taps h xs : List ℤ) → Samples h → Samples xs → Within way (sumOf taps (runOf taps h xs .final)) (sumOf taps (driving way taps))
 unfolding runOf
@@ -161,51 +107,7 @@ pub attained : (way : Way) (taps h : List ℤ) → length taps ≤ mostTaps → 
 unfolding runOf
 attained way taps h few k = fed taps (driving way taps) h (length-map taps (drivenOf way)) few k
 
--- ---- The verdict.
--- which way the driving samples clip, and the verdict for it
-data Told (taps : List ℤ) : Type 0 where
-  high : clipsWay High taps ≡ true → verdictOf taps ≡ 1 → ((before : List ℤ) → witnessOf taps before ≡ driving High taps) → Told taps
-  low : clipsWay High taps ≡ false → clipsWay Low taps ≡ true → verdictOf taps ≡ 2 → ((before : List ℤ) → witnessOf taps before ≡ driving Low taps) → Told taps
-  neither : clipsWay High taps ≡ false → clipsWay Low taps ≡ false → verdictOf taps ≡ 0 → Told taps
-
-told : (taps : List ℤ) → Told taps
-unfolding verdictOf witnessOf
-told taps = go (clipsWay High taps) (clipsWay Low taps) refl refl
-  where
-    go : (a b : Bool) → clipsWay High taps ≡ a → clipsWay Low taps ≡ b → Told taps
-    go true b h l = high h (rw h) (λ before. rw h)
-    go false true h l = low h l (rw (h, l)) (λ before. rw (h, l))
-    go false false h l = neither h l (rw (h, l))
-
--- no taps, no clip
-nothing-clips : (way : Way) → clipsWay way [] ≡ true → ⊥
-unfolding clipsWay levelOf sumOf
-nothing-clips way c = zero-inside way (rw rounded-zero at c)
-
--- the driving samples, fed oldest first from any state, end past the range where the test says so
-drives : (way : Way) (taps h : List ℤ) → length taps ≤ mostTaps → length h ≤ mostTaps → clipsWay way taps ≡ true → Ends way (runOf taps h (reverse (driving way taps)))
-unfolding clipsWay levelOf
-drives way [] h few k c = absurd (nothing-clips way c)
-drives way (t ∷ ts) h few k c =
-    let taps = t ∷ ts in
-    let w = driving way taps in
-    let long : length (reverse w) ≡ length taps = length-reverse w ∙ length-map taps (drivenOf way) in
-    past-ends way taps h (reverse w) (omega arith)
-    (rw (fed taps w h (length-map taps (drivenOf way)) few k) c)
-
--- where the driving samples do not clip that way, no run ends so
-spares : (way : Way) (taps h xs : List ℤ) → clipsWay way taps ≡ false → Samples h → Samples xs → Ends way (runOf taps h xs) → ⊥
-spares way taps h xs c s k e = never (sym (never-passes way taps (after h xs) (samples-after h xs s k) c) ∙ ends-past way taps h xs e)
-
-quiet : (taps h xs : List ℤ) → clipsWay High taps ≡ false → clipsWay Low taps ≡ false → Samples h → Samples xs → clipped (clipsOf taps h xs) ≡ 0
-unfolding clipsOf clipped bitOf clipOf
-quiet taps h [] a b s k = refl
-quiet taps h (x ∷ xs) a b s (more m k) =
-    let new = next h x in
-    let t = samples-next h x s m in
-    let flag = inside-keeps (levelOf taps new) (never-passes High taps new t a) (never-passes Low taps new t b) .0 in
-    rw flag (omega (arith, quiet taps new xs a b t k))
-
+-- ---- The verdict. `Ends way r`: the last output of the run r has its clip flag set, and is held to that end.
 -- SOUND. Verdict 0: from any state of samples, silence among them, no samples make any output clip.
 pub sound : (taps h xs : List ℤ) → verdictOf taps ≡ 0 → Samples h → Samples xs → clipped (runOf taps h xs .flags) ≡ 0
 unfolding runOf
@@ -279,3 +181,60 @@ ends-low taps h xs s k end not-high = go (told taps)
     go (high a v w) = absurd (not-high v)
     go (low a b v w) = v
     go (neither a b v) = absurd (spares Low taps h xs b s k end)
+
+-- either way, the witness makes an output clip
+pub witness-clips : (taps h before : List ℤ) → length taps ≤ mostTaps → length h ≤ mostTaps → (verdictOf taps ≡ 0 → ⊥) → 0 < clipped (runOf taps h (reverse (witnessOf taps before)) .flags)
+witness-clips taps h before few k some = go (told taps)
+  where
+    go : Told taps → 0 < clipped (runOf taps h (reverse (witnessOf taps before)) .flags)
+    go (high a v w) = rw (w before) (ends-clipped High (runOf taps h (reverse (driving High taps))) (drives High taps h few k a))
+    go (low a b v w) = rw (w before) (ends-clipped Low (runOf taps h (reverse (driving Low taps))) (drives Low taps h few k b))
+    go (neither a b v) = absurd (some v)
+
+-- ---- The public functions together, by their promises alone: `Heads` is what `headroom` promises, `Runs` what `run` does.
+-- an answer that is done is the meaning's, and not a refusal's
+same-value : {v w : ℕ} → DoneU v false ≡ DoneU w false → v ≡ w
+same-value e = cc
+
+not-refused : {v n : ℕ} {A : Type 0} → DoneU v false ≡ RefusedU n → A
+not-refused e =
+    let z : _≡_ {A = ℕ} 0 1 = cc in
+    absurd (omega arith)
+
+head-done : (taps witness kept : List ℤ) (v : ℕ) → Heads taps witness (DoneU v false) kept → (length taps ≤ mostTaps) × ((v ≡ verdictOf taps) × (kept ≡ witnessOf taps witness))
+unfolding headroomOf
+head-done taps witness kept v p = pick (which _ _ _ p)
+  where
+    pick : ((headFault (length taps) (length witness) ≡ 0) × (headed (DoneU v false) kept ≡ headed (DoneU (verdictOf taps) false) (witnessOf taps witness)))
+        ⊎ (headed (DoneU v false) kept ≡ headed (RefusedU (headFault (length taps) (length witness))) witness)
+        → (length taps ≤ mostTaps) × ((v ≡ verdictOf taps) × (kept ≡ witnessOf taps witness))
+    pick (inl h) = (head-fit (length taps) (length witness) (h .0) .1, (same-value (ap (λ (r : Headed). r .answer) (h .1)), ap (λ (r : Headed). r .witness) (h .1)))
+    pick (inr h) = not-refused (ap (λ (r : Headed). r .answer) h)
+
+run-done : (taps : List ℤ) (state state' : State) (samples outputs outputs' : List ℤ) (marks marks' : List ℕ) (n : ℕ)
+    → Runs taps state samples outputs marks (DoneU n false) state' outputs' marks' → n ≡ clipped (runOf taps (history state) samples .flags)
+unfolding ranOf
+run-done taps state state' samples outputs outputs' marks marks' n p = pick (which _ _ _ p)
+  where
+    pick : ((blockFault (length taps) (length samples) (length outputs) (length marks) ≡ 0) × (ran (DoneU n false) state' outputs' marks' ≡ done (runOf taps (history state) samples)))
+        ⊎ (ran (DoneU n false) state' outputs' marks' ≡ ran (RefusedU (blockFault (length taps) (length samples) (length outputs) (length marks))) state outputs marks)
+        → n ≡ clipped (runOf taps (history state) samples .flags)
+    pick (inl h) = same-value (ap (λ (r : Ran). r .answer) (h .1))
+    pick (inr h) = not-refused (ap (λ (r : Ran). r .answer) h)
+
+module _ (taps witness kept : List ℤ) (state state' : State) (samples outputs outputs' : List ℤ) (marks marks' : List ℕ) (n : ℕ) where
+  -- NO SQUEAL. `headroom` answers 0: then `run`, on any block of samples from any state of samples, counts no clip.
+  pub no-squeal : Heads taps witness (DoneU 0 false) kept → Samples (history state) → Samples samples
+      → Runs taps state samples outputs marks (DoneU n false) state' outputs' marks' → n ≡ 0
+  no-squeal p s k q =
+      run-done taps state state' samples outputs outputs' marks marks' n q
+      ∙ sound taps (history state) samples (sym (head-done taps witness kept 0 p .1 .0)) s k
+
+  -- `headroom` answers 1 or 2: then `run`, on the witness it leaves, oldest first, from any state, counts one.
+  pub squeal : (v : ℕ) → Heads taps witness (DoneU (v + 1) false) kept → length (history state) ≤ mostTaps → samples ≡ reverse kept
+      → Runs taps state samples outputs marks (DoneU n false) state' outputs' marks' → 0 < n
+  squeal v p l e q =
+      let h = head-done taps witness kept (v + 1) p in
+      let fed : samples ≡ reverse (witnessOf taps witness) = e ∙ ap reverse (h .1 .1) in
+      let count = run-done taps state state' samples outputs outputs' marks marks' n q in
+      rw (count, fed) (witness-clips taps (history state) witness (h .0) l (λ z. omega (arith, h .1 .0)))

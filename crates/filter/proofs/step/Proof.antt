@@ -12,7 +12,7 @@ use Rattle.laws.specs.Signed.{ok-back}
 use Rattle.format.specs.declared.SignedAnswer.the-variants.{Done as DoneS}
 use Rattle.filter.specs.declared.sum.Held.{Held}
 use Rattle.filter.specs.Run.{next-length}
-use Rattle.filter.specs.Meaning.{mostTaps, history, next, outputOf, clipOf}
+use Rattle.filter.specs.Meaning.{mostTaps, outputOf, clipOf}
 use Rattle.filter.specs.Refuse.{taps-few, refuses, goes-on}
 use Rattle.filter.specs.Promise.{stepped, stepOf}
 use Rattle.filter.proofs.step.Statement.{statement}
@@ -46,24 +46,22 @@ output-requires c κs =
 wide-requires : tie.Need-wide-requires
 wide-requires c κs = search needs
 
+value : (c : tie.After-wide) → toZ w64 (ofZ w64 (c .wide .result)) ≡ c .before .before .output .result .value
+value c =
+    let output = c .before .before .output in
+    ok-back w64 (c .wide .result) (c .wide .ok) ∙ c .wide .ensures ∙ ok-back w16 (output .result .value) (c .before .struct-told .given .0 .1)
+
 returns-2 : tie.Need-returns-2
 unfolding stepOf outputOf clipOf
 returns-2 c =
     let start = c .before .before .before .before .before .before .before .before .before in
-    let a = start .args in
     let taps = c .before .before .before .before .before .before .before .before .taps in
     let left = c .before .before .before .before .before .before .before .if1 .left in
     let pushed = c .before .before .before .before .push in
     let output = c .before .before .output in
-    let line : pushed .last .0 ≡ next (history (a .state)) (a .x) = rw (toZ-ofZ {w = w16} (start .fits .x)) at (pushed .ensures) in
-    let value : toZ w64 (ofZ w64 (c .wide .result)) ≡ outputOf (a .taps .now) (pushed .last .0) =
-    ok-back w64 (c .wide .result) (c .wide .ok)
-    ∙ c .wide .ensures
-    ∙ ok-back w16 (output .result .value) (c .before .struct-told .given .0 .1)
-    ∙ ap (λ (h : Held). h .value) (output .ensures)
-    in
-    let flag : output .result .clipped ≡ clipOf (a .taps .now) (pushed .last .0) = ap (λ (h : Held). h .clipped) (output .ensures) in
-    same-step (a .taps .now) value flag line ∙ goes-on _ _ _ _ (taps .ensures) left
+    let line = rw (toZ-ofZ {w = w16} (start .fits .x)) at (pushed .ensures) in
+    same-step (start .args .taps .now) (value c ∙ ap (λ (h : Held). h .value) (output .ensures)) (ap (λ (h : Held). h .clipped) (output .ensures)) line
+    ∙ goes-on _ _ _ _ (taps .ensures) left
 
 pub step-spec : {M : Type 1} → statement M
 step-spec =
