@@ -1,7 +1,7 @@
 -- No samples reach further than the driving ones: of a term, of the sum, of the level. Both ways at once: `Within way a b` is a ≤ b on the way high
 -- and b ≤ a on the way low. Of the rounding only that it keeps the order is used. Assumes nothing.
 use mathlib.Core.Path.{_≡_, refl, sym, _∙_}
-use mathlib.Core.Bool.{Bool, true, false}
+use mathlib.Core.Bool.{Bool, true, false, false≢true}
 use mathlib.Core.List.{List, [], _∷_}
 use Prim.Native.Nat.{ℕ, zero, suc}
 use native.Mathlib.Nat.{mul-le-mul-left}
@@ -11,11 +11,11 @@ use Rattle.laws.specs.Diff.{le-out, add-out, up-mul, dn-mul, orders}
 use Rattle.laws.specs.Order.{+ℤ-mono, mul-out, *ℤ-mono-pos}
 use Rattle.laws.specs.Signed.{signed}
 use Rattle.laws.specs.Tests.{ltZ-true, lt-ltZ}
-use Rattle.format.specs.Meaning.{lowest, highest, fits}
+use Rattle.format.specs.Meaning.{lowest, highest}
 use Rattle.filter.specs.declared.peak.Way.{Way}
 use Rattle.filter.specs.declared.peak.Way.the-variants.{High, Low}
 use Rattle.filter.specs.Meaning.{sumOf, rounded, levelOf, bySign, drivenOf, driving, passes, clipsWay}
-use Rattle.filter.specs.Range.{never, Sample, Samples, more, sample-out}
+use Rattle.filter.specs.Range.{Sample, zero-sample, Samples, more}
 use Rattle.filter.specs.Rounding.{rounded-mono}
 
 pub data Within : Way → ℤ → ℤ → Type 0 where
@@ -72,17 +72,13 @@ by-below n a b = refl
 pub term-within : (way : Way) (t s : ℤ) → Sample s → Within way (t *ℤ s) (t *ℤ drivenOf way t)
 unfolding drivenOf lowest highest
 term-within High (pos zero) s h = upward (times-zero s (drivenOf High (pos 0)))
-term-within High (pos (suc n)) s h = rw by-above (upward (times-pos (suc n) (sample-out s h .1)))
-term-within High (negsuc n) s h = rw by-below (upward (times-neg n (sample-out s h .0)))
+term-within High (pos (suc n)) s h = rw by-above (upward (times-pos (suc n) (h .high)))
+term-within High (negsuc n) s h = rw by-below (upward (times-neg n (h .low)))
 term-within Low (pos zero) s h = downward (times-zero (drivenOf Low (pos 0)) s)
-term-within Low (pos (suc n)) s h = rw by-above (downward (times-pos (suc n) (sample-out s h .0)))
-term-within Low (negsuc n) s h = rw by-below (downward (times-neg n (sample-out s h .1)))
+term-within Low (pos (suc n)) s h = rw by-above (downward (times-pos (suc n) (h .low)))
+term-within Low (negsuc n) s h = rw by-below (downward (times-neg n (h .high)))
 
 -- so is the sum, and so is the level
-zero-sample : Sample (pos 0)
-unfolding fits lowest highest
-zero-sample = refl
-
 no-sum : (taps : List ℤ) → sumOf taps [] ≡ pos 0
 unfolding sumOf
 no-sum [] = refl
@@ -107,5 +103,5 @@ unfolding clipsWay
 never-passes way taps h s e = go (passes way (levelOf taps h)) refl
   where
     go : (t : Bool) → passes way (levelOf taps h) ≡ t → t ≡ false
-    go true p = never (sym e ∙ within-passes (level-within way taps h s) p)
+    go true p = absurd (false≢true (sym e ∙ within-passes (level-within way taps h s) p))
     go false p = refl

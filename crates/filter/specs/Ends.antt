@@ -1,6 +1,6 @@
 -- How a run ends: the last output clips one way exactly if the last level is past that end of the range. Assumes nothing.
 use mathlib.Core.Path.{_≡_, refl, sym, _∙_}
-use mathlib.Core.Bool.{Bool, true, false}
+use mathlib.Core.Bool.{Bool, true, false, false≢true}
 use mathlib.Core.List.{List, [], _∷_}
 use Prim.Native.Nat.{_+_, _<_}
 use native.Mathlib.Omega.{arith}
@@ -8,7 +8,7 @@ use lib.IntN.{ℤ, pos}
 use lib.ListN.{length}
 use Rattle.filter.specs.declared.peak.Way.{Way}
 use Rattle.filter.specs.Meaning.{next, levelOf, outputOf, clipOf, after, outputsOf, clipsOf, Run, runOf, bitOf, clipped, passes}
-use Rattle.filter.specs.Range.{never, endOf, past-clips, clips-past}
+use Rattle.filter.specs.Range.{endOf, past-clips, clips-past}
 
 -- the last of a list, d where there is none
 unfoldable pub lastOf : {A : Type 0} → A → List A → A
@@ -33,7 +33,7 @@ last-flag taps h d x (y ∷ ys) = last-flag taps (next h x) (clipOf taps (next h
 -- so a run ends past an end of the range exactly if its last level is
 pub ends-past : (way : Way) (taps h xs : List ℤ) → Ends way (runOf taps h xs) → passes way (levelOf taps (after h xs)) ≡ true
 unfolding runOf lastOf clipsOf outputOf clipOf
-ends-past way taps h [] e = never (e .flag)
+ends-past way taps h [] e = absurd (false≢true (e .flag))
 ends-past way taps h (x ∷ xs) e =
     clips-past way (levelOf taps (after h (x ∷ xs))) (sym (last-flag taps h false x xs) ∙ e .flag) (sym (last-output taps h (pos 0) x xs) ∙ e .output)
 
@@ -48,7 +48,7 @@ past-ends way taps h (x ∷ xs) l p =
 last-counts : (b : Bool) (flags : List Bool) → lastOf b flags ≡ true → 0 < bitOf b + clipped flags
 unfolding lastOf clipped bitOf
 last-counts true [] e = omega arith
-last-counts false [] e = never e
+last-counts false [] e = absurd (false≢true e)
 last-counts b (f ∷ flags) e = omega (arith, last-counts f flags e)
 
 pub ends-clipped : (way : Way) (r : Run) → Ends way r → 0 < clipped (r .flags)

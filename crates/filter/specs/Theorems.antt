@@ -1,7 +1,7 @@
 -- The facts that the filter and the headroom check are for, stated of the meaning of the filter itself. Assumes nothing.
 use mathlib.Core.Path.{_≡_, refl, sym, ap, _∙_}
 use mathlib.Core.Logic.{_↔_, _⊎_, inl, inr}
-use mathlib.Core.Bool.{true, false}
+use mathlib.Core.Bool.{true, false, false≢true}
 use mathlib.Core.List.{List, [], _∷_, _++_, reverse}
 use Prim.Native.Nat.{ℕ, _+_, _*_, _^_, _≤_, _<_}
 use native.Mathlib.Omega.{arith}
@@ -22,7 +22,7 @@ use Rattle.filter.specs.Verdict.{driving-samples, fed, Told, high, low, 
 use Rattle.filter.specs.Meaning.{mostTaps, history, silence, next, sumOf, rounded, held, clips, levelOf, outputOf, clipOf, after, outputsOf, clipsOf, Run, runOf, clipped, tapsFault, headFault, blockFault, drivenOf, driving, clipsWay, verdictOf, witnessOf}
 use Rattle.filter.specs.Promise.{unless, stepped, stepOf, Ran, ran, done, ranOf, Runs, Headed, headed, headroomOf, Heads}
 use Rattle.filter.specs.Refuse.{which, head-fit}
-use Rattle.filter.specs.Range.{never, Samples, more, sample-sfits, samples-after, samples-reverse, samples-zeros, Lies, past, inside, lies, past-clips, inside-keeps, past-end}
+use Rattle.filter.specs.Range.{Samples, more, sample-sfits, samples-after, samples-reverse, samples-zeros, Lies, past, inside, lies, past-clips, inside-keeps, past-end}
 use Rattle.filter.specs.Rounding.{rounded-near}
 use Rattle.filter.specs.Run.{after-append, outputs-append, clips-append, after-is}
 use Rattle.filter.specs.Drive.{Within, sum-within}
@@ -34,7 +34,7 @@ clips-changed y = (λ c e. changed c e (lies y), λ n. unchanged n (lies y))
   where
     changed : clips y ≡ true → held y ≡ y → Lies y → ⊥
     changed c e (past way h) = past-end way y h (sym (past-clips way y h .1) ∙ e)
-    changed c e (inside h l) = never (sym (inside-keeps y h l .0) ∙ c)
+    changed c e (inside h l) = absurd (false≢true (sym (inside-keeps y h l .0) ∙ c))
 
     unchanged : (held y ≡ y → ⊥) → Lies y → clips y ≡ true
     unchanged n (past way h) = past-clips way y h .0
@@ -46,7 +46,7 @@ unfolding clipOf outputOf levelOf
 output-near taps h c = go (lies (rounded (sumOf taps h)))
   where
     go : Lies (rounded (sumOf taps h)) → natAbs (sumOf taps h -ℤ held (rounded (sumOf taps h)) *ℤ pos (2 ^ 15)) < 2 ^ 15
-    go (past way k) = never (sym c ∙ past-clips way (rounded (sumOf taps h)) k .0)
+    go (past way k) = absurd (false≢true (sym c ∙ past-clips way (rounded (sumOf taps h)) k .0))
     go (inside k l) = rw (inside-keeps (rounded (sumOf taps h)) k l .1) (rounded-near (sumOf taps h))
 
 -- the exact sum is at most 2^30 for each tap, 2^36 for 64: the word of 63 bits and a sign has 27 bits to spare

@@ -1,6 +1,6 @@
 -- What the driving samples decide: where they clip, they are a witness from any state; where they do not, no run ends so. Assumes nothing.
 use mathlib.Core.Path.{_≡_, refl, sym, _∙_}
-use mathlib.Core.Bool.{Bool, true, false}
+use mathlib.Core.Bool.{Bool, true, false, false≢true}
 use mathlib.Core.List.{List, [], _∷_, _++_, reverse, reverse-reverse}
 use Prim.Native.Nat.{_≤_}
 use native.Mathlib.Omega.{arith}
@@ -11,7 +11,7 @@ use Rattle.filter.specs.declared.peak.Way.{Way}
 use Rattle.filter.specs.declared.peak.Way.the-variants.{High, Low}
 use Rattle.filter.specs.Ends.{Ends, ends-past, past-ends}
 use Rattle.filter.specs.Meaning.{mostTaps, next, sumOf, levelOf, clipOf, after, clipsOf, runOf, bitOf, clipped, drivenOf, driving, clipsWay, verdictOf, witnessOf}
-use Rattle.filter.specs.Range.{never, Samples, none, more, driven-sample, samples-after, samples-next, zero-inside, inside-keeps}
+use Rattle.filter.specs.Range.{Samples, none, more, driven-sample, samples-after, samples-next, zero-inside, inside-keeps}
 use Rattle.filter.specs.Rounding.{rounded-zero}
 use Rattle.filter.specs.Run.{after-is}
 use Rattle.filter.specs.Sum.{sum-take}
@@ -61,7 +61,7 @@ drives way (t ∷ ts) h few k c =
 
 -- where the driving samples do not clip that way, no run ends so
 pub spares : (way : Way) (taps h xs : List ℤ) → clipsWay way taps ≡ false → Samples h → Samples xs → Ends way (runOf taps h xs) → ⊥
-spares way taps h xs c s k e = never (sym (never-passes way taps (after h xs) (samples-after h xs s k) c) ∙ ends-past way taps h xs e)
+spares way taps h xs c s k e = absurd (false≢true (sym (never-passes way taps (after h xs) (samples-after h xs s k) c) ∙ ends-past way taps h xs e))
 
 pub quiet : (taps h xs : List ℤ) → clipsWay High taps ≡ false → clipsWay Low taps ≡ false → Samples h → Samples xs → clipped (clipsOf taps h xs) ≡ 0
 unfolding clipsOf clipped bitOf clipOf

@@ -63,15 +63,15 @@ pub(crate) fn hold(y: i64) -> Held
             clipped: true,
         };
     }
-    if y <= 32767 {
+    if 32767 < y {
         return Held {
-            value: y as i16,
-            clipped: false,
+            value: 32767,
+            clipped: true,
         };
     }
     Held {
-        value: 32767,
-        clipped: true,
+        value: y as i16,
+        clipped: false,
     }
 }
 

@@ -1,6 +1,6 @@
 -- What a format is, which raws it has, and what becomes of an exact number in each manner: document 01, "Domain and numbers".
 -- Assumes nothing.
-use mathlib.Core.Bool.{Bool, true, false, cond, not}
+use mathlib.Core.Bool.{Bool, true, false, cond, not, _&&_, _||_}
 use Prim.Native.Nat.{ℕ, _-_, _*_, _+_, _^_}
 use lib.Dec.{leb, eqb}
 use lib.IntN.{ℤ, pos, negℤ, _-ℤ_, _*ℤ_}
@@ -20,7 +20,7 @@ pub data Sign : Type 0 where
   unsigned : Sign
 
 unfoldable pub isWidth : ℕ → Bool
-isWidth w = cond (eqb w 8) true (cond (eqb w 16) true (cond (eqb w 32) true (eqb w 64)))
+isWidth w = eqb w 8 || eqb w 16 || eqb w 32 || eqb w 64
 
 -- the first refusal of a format, 0 for none: "1: W is not one of the four", "2: F above W"
 unfoldable pub faultOf : ℕ → ℕ → ℕ
@@ -36,11 +36,11 @@ highest signed w = pos (2 ^ (w - 1) - 1)
 highest unsigned w = pos (2 ^ w - 1)
 
 unfoldable pub fits : Sign → ℕ → ℤ → Bool
-fits s w x = cond (ltZ x (lowest s w)) false (leZ x (highest s w))
+fits s w x = leZ (lowest s w) x && leZ x (highest s w)
 
 -- "x held to the nearer end of the range"
 unfoldable pub hold : Sign → ℕ → ℤ → ℤ
-hold s w x = cond (ltZ x (lowest s w)) (lowest s w) (cond (leZ x (highest s w)) x (highest s w))
+hold s w x = cond (ltZ x (lowest s w)) (lowest s w) (cond (ltZ (highest s w) x) (highest s w) x)
 
 -- "the raw congruent to x modulo 2^W": x less a whole number of 2^W
 unfoldable pub wrap : Sign → ℕ → ℤ → ℤ
@@ -62,9 +62,13 @@ settle Overflowing s w x = done (wrap s w x) (not (fits s w x))
 unfoldable pub unless : ℕ → Outcome → Outcome
 unless n o = cond (eqb n 0) o (refused n)
 
--- an exact number, as a sign and two words
-unfoldable pub exact : Bool → ℕ → ℕ → ℤ
-exact neg high low = cond neg (negℤ (pos (high * 2 ^ 64 + low))) (pos (high * 2 ^ 64 + low))
+-- an exact number, as a sign and a magnitude; and the magnitude as two words
+unfoldable pub withSign : Bool → ℕ → ℤ
+withSign true m = negℤ (pos m)
+withSign false m = pos m
+
+abbrev pub exact : Bool → ℕ → ℕ → ℤ
+exact neg high low = withSign neg (high * 2 ^ 64 + low)
 
 -- The answers of the code stand for outcomes. An unsigned outcome is never negative (Theorems: `settle-unsigned`).
 unfoldable pub signedAnswer : Outcome → SignedAnswer

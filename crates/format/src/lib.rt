@@ -1,6 +1,9 @@
 // Formats, manners and answers, and `settle`: an exact number into a format in a manner.
-ghost use mathlib.Core.Path.{_≡_};
-ghost use Rattle.format.specs.Meaning.{faultOf, isWidth};
+mod place;
+pub mod signed;
+pub mod unsigned;
+
+ghost use Rattle.format.specs.Promise.{Check, IsWidth};
 
 // How a result that may not fit is answered (01, "Domain and numbers").
 pub enum Manner {
@@ -31,7 +34,7 @@ pub const OVERFLOW: u32 = 10;
 
 // 0 for a format; else the refusal: 1 for the width, then 2 for the fraction bits.
 pub fn check(width: u32, frac: u32) -> u32
-    ensures { λ r. ⌜ r ≡ faultOf width frac ⌝ }
+    ensures { λ r. ⌜ Check width frac r ⌝ }
 {
     if is_width(width) {
         if frac <= width {
@@ -44,7 +47,7 @@ pub fn check(width: u32, frac: u32) -> u32
 
 // Whether a width is one of the four.
 pub fn is_width(width: u32) -> bool
-    ensures { λ r. ⌜ r ≡ isWidth width ⌝ }
+    ensures { λ r. ⌜ IsWidth width r ⌝ }
 {
     if width == 8 {
         return true;

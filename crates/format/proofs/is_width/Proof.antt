@@ -1,26 +1,21 @@
+-- `format::is_width` meets its promise, by the tests. Assumes nothing.
 use Rattle.laws.specs.Rules.{tests}
 use Rattle.format.specs.Meaning.{isWidth}
 use Rattle.format.proofs.is_width.Statement.{statement}
 use Rattle.format.proofs.is_width.Tie as tie
-use Rattle.format.proofs.is_width.Reads as reads
-use Rattle.format.proofs.is_width.Lts as lts
 
--- src/lib.rt:50:9
 returns : tie.Need-returns
 unfolding isWidth
 returns c = search tests
 
--- src/lib.rt:53:9
 returns-2 : tie.Need-returns-2
 unfolding isWidth
 returns-2 c = search tests
 
--- src/lib.rt:56:9
 returns-3 : tie.Need-returns-3
 unfolding isWidth
 returns-3 c = search tests
 
--- src/lib.rt:46:1
 returns-4 : tie.Need-returns-4
 unfolding isWidth
 returns-4 c = search tests

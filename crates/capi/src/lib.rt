@@ -1,0 +1,3 @@
+// The C interface: each function calls one public function of the library and copies its answer (include/tamqoret.h).
+mod answer;
+pub mod settle;

@@ -1,0 +1,6 @@
+pub mod Cases
+pub mod Meaning
+pub mod Promise
+pub mod Runs
+pub mod Steps
+pub mod Theorems

@@ -1,0 +1,90 @@
+-- What a digit view is: document 01, module 1. A run is the list of the bytes between two places of the text.
+-- Assumes nothing.
+use mathlib.Core.Path.{_≡_}
+use mathlib.Core.Bool.{Bool, false, cond}
+use mathlib.Core.List.{List, [], _∷_, reverse}
+use Prim.Native.Nat.{ℕ, _-_}
+use lib.ListN.{length}
+use lib.Dec.{eqb}
+use Rattle.digits.specs.declared.Digit.{Digit}
+use Rattle.digits.specs.declared.Digit.the-variants.{Is, Nothing}
+
+-- `_`
+unfoldable pub isUnd : ℕ → Bool
+isUnd b = eqb b 95
+
+-- `0`
+unfoldable pub isZero : ℕ → Bool
+isZero b = eqb b 48
+
+-- "A run of digits in the caller's text with single or repeated `_` between them": the digits it stands for are its other bytes, in order.
+unfoldable pub digitsOf : List ℕ → List ℕ
+digitsOf [] = []
+digitsOf (b ∷ t) = cond (isUnd b) (digitsOf t) (b ∷ digitsOf t)
+
+-- the bytes in front of which a rule holds, and what is left without them
+unfoldable pub takeWhile : (ℕ → Bool) → List ℕ → List ℕ
+takeWhile p [] = []
+takeWhile p (b ∷ t) = cond (p b) (b ∷ takeWhile p t) []
+
+unfoldable pub dropWhile : (ℕ → Bool) → List ℕ → List ℕ
+dropWhile p [] = []
+dropWhile p (b ∷ t) = cond (p b) (dropWhile p t) (b ∷ t)
+
+-- the same from behind
+unfoldable pub takeBack : (ℕ → Bool) → List ℕ → List ℕ
+takeBack p t = reverse (takeWhile p (reverse t))
+
+unfoldable pub dropBack : (ℕ → Bool) → List ℕ → List ℕ
+dropBack p t = reverse (dropWhile p (reverse t))
+
+-- "The view has no `_` at either end": the view of a run is the run without those.
+unfoldable pub trimmed : List ℕ → List ℕ
+trimmed t = dropBack isUnd (dropWhile isUnd t)
+
+-- what is dropped in front of the view and behind it
+unfoldable pub undsFront : List ℕ → List ℕ
+undsFront t = takeWhile isUnd t
+
+unfoldable pub undsBack : List ℕ → List ℕ
+undsBack t = takeBack isUnd (dropWhile isUnd t)
+
+-- a run with no `_` at either end
+unfoldable pub StartsWithNo : (ℕ → Bool) → List ℕ → Type 0
+StartsWithNo p [] = Unit {0}
+StartsWithNo p (b ∷ t) = p b ≡ false
+
+pub record IsView (t : List ℕ) : Type 0 where
+  pub front : StartsWithNo isUnd t
+  pub back : StartsWithNo isUnd (reverse t)
+
+-- "Splitting at a digit count": the run up to its n-th digit, and what comes after; all and nothing where there are fewer.
+unfoldable pub headOf : List ℕ → ℕ → List ℕ
+headOf [] n = []
+headOf (b ∷ t) n = cond (eqb n 0) [] (b ∷ headOf t (cond (isUnd b) n (n - 1)))
+
+unfoldable pub tailOf : List ℕ → ℕ → List ℕ
+tailOf [] n = []
+tailOf (b ∷ t) n = cond (eqb n 0) (b ∷ t) (tailOf t (cond (isUnd b) n (n - 1)))
+
+-- "skip the `_` between": each part is a view
+unfoldable pub uptoOf : List ℕ → ℕ → List ℕ
+uptoOf t n = trimmed (headOf t n)
+
+unfoldable pub fromOf : List ℕ → ℕ → List ℕ
+fromOf t n = trimmed (tailOf t n)
+
+-- "first and last digit"
+unfoldable pub firstOf : List ℕ → Digit
+firstOf [] = Nothing
+firstOf (b ∷ t) = Is b
+
+unfoldable pub lastOf : List ℕ → Digit
+lastOf t = firstOf (reverse t)
+
+-- how many of the digits in front, or behind, are `0`
+unfoldable pub leadingZeros : List ℕ → ℕ
+leadingZeros d = length (takeWhile isZero d)
+
+unfoldable pub trailingZeros : List ℕ → ℕ
+trailingZeros d = length (takeWhile isZero (reverse d))

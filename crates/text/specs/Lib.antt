@@ -1,0 +1,5 @@
+pub mod Class
+pub mod Found
+pub mod Meaning
+pub mod Reading
+pub mod Run
