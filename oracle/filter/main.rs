@@ -251,7 +251,7 @@ fn main() {
     brute(&mut score);
     blocks(&mut score);
     speed();
-    println!("filter: {} passed, {} failed", score.passed, score.failed);
+    println!("{} passed, {} failed", score.passed, score.failed);
     if score.failed != 0 {
         std::process::exit(1);
     }

@@ -32,7 +32,7 @@ silence = replicate mostTaps (pos 0)
 unfoldable pub next : List ℤ → ℤ → List ℤ
 next history x = take mostTaps (x ∷ history)
 
--- "Let P be the sum of tap(i) x sample(now - i) for i from 0 to n-1, kept exactly."
+-- "Let P be the sum of tap(i) x sample(now - i) for i from 0 to n-1, kept exactly." Where one list is the longer, its rest counts for nothing.
 unfoldable pub sumOf : List ℤ → List ℤ → ℤ
 sumOf [] history = pos 0
 sumOf (tap ∷ taps) [] = pos 0
