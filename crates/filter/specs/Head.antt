@@ -1,0 +1,30 @@
+-- The verdict as the code has it: the filter's level on a line that starts with the driving samples. Assumes nothing.
+use mathlib.Core.Path.{_≡_}
+use mathlib.Core.Bool.{Bool, true, false}
+use mathlib.Core.List.{List}
+use lib.IntN.{ℤ}
+use lib.ListN.{length, take}
+use Rattle.filter.specs.declared.peak.Way.{Way}
+use Rattle.filter.specs.declared.peak.Way.the-variants.{High, Low}
+use Rattle.filter.specs.Meaning.{levelOf, driving, passes, clipsWay, verdictOf, witnessOf}
+use Rattle.filter.specs.Sum.{sum-take}
+
+-- the test of the level is the test of the meaning
+pub test-way : (way : Way) (taps line : List ℤ) (y : ℤ) (t : Bool) → y ≡ levelOf taps line → take (length taps) line ≡ driving way taps → passes way y ≡ t → clipsWay way taps ≡ t
+unfolding levelOf clipsWay
+test-way way taps line y t e d h =
+    rw (← d, sum-take taps line) (rw e at h)
+
+-- the three verdicts, by the two tests
+module _ (taps before kept : List ℤ) where
+  pub verdict-high : clipsWay High taps ≡ true → kept ≡ driving High taps → (1 ≡ verdictOf taps) × (kept ≡ witnessOf taps before)
+  unfolding verdictOf witnessOf
+  verdict-high h k = (rw h, rw (h, k))
+
+  pub verdict-low : clipsWay High taps ≡ false → clipsWay Low taps ≡ true → kept ≡ driving Low taps → (2 ≡ verdictOf taps) × (kept ≡ witnessOf taps before)
+  unfolding verdictOf witnessOf
+  verdict-low h l k = (rw (h, l), rw (h, l, k))
+
+  pub verdict-none : clipsWay High taps ≡ false → clipsWay Low taps ≡ false → kept ≡ before → (0 ≡ verdictOf taps) × (kept ≡ witnessOf taps before)
+  unfolding verdictOf witnessOf
+  verdict-none h l k = (rw (h, l), rw (h, l, k))

@@ -1,0 +1,15 @@
+pub mod Block
+pub mod Cases
+pub mod Drive
+pub mod Ends
+pub mod Head
+pub mod Line
+pub mod Meaning
+pub mod Promise
+pub mod Range
+pub mod Refuse
+pub mod Rounding
+pub mod Run
+pub mod Sum
+pub mod Theorems
+pub mod Verdict

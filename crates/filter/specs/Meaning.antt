@@ -1,0 +1,131 @@
+-- The filter and the headroom check over lists of integers: document 01, modules 7 and 8. A history is a list of samples, newest first.
+-- Assumes nothing.
+use mathlib.Core.Bool.{Bool, true, false, cond, not}
+use mathlib.Core.List.{List, [], _∷_, map}
+use Prim.Native.Nat.{ℕ, _+_, _^_}
+use lib.Dec.{leb, eqb}
+use lib.IntN.{ℤ, pos, _+ℤ_, _*ℤ_}
+use lib.ListN.{take, replicate}
+use lib.Signed.{ltZ}
+use Rattle.laws.specs.Floor.{floor}
+use Rattle.format.specs.Meaning.{signed, lowest, highest, fits, hold}
+use Rattle.filter.specs.declared.State.{State}
+use Rattle.filter.specs.declared.peak.Way.{Way}
+use Rattle.filter.specs.declared.peak.Way.the-variants.{High, Low}
+
+-- "The state holds the last 64 samples"; "40: taps not 1 to 64"
+abbrev pub mostTaps : ℕ
+mostTaps = 64
+
+-- the samples of a state, newest first; and the state of a list of samples
+abbrev pub history : State → List ℤ
+history state = state .samples
+
+abbrev pub stateOf : List ℤ → State
+stateOf samples = record { samples = samples }
+
+-- "at the start all 0"
+abbrev pub silence : List ℤ
+silence = replicate mostTaps (pos 0)
+
+-- "The state then holds the new sample as newest."
+unfoldable pub next : List ℤ → ℤ → List ℤ
+next history x = take mostTaps (x ∷ history)
+
+-- "Let P be the sum of tap(i) x sample(now - i) for i from 0 to n-1, kept exactly." Where one list is the longer, its rest counts for nothing.
+unfoldable pub sumOf : List ℤ → List ℤ → ℤ
+sumOf [] history = pos 0
+sumOf (tap ∷ taps) [] = pos 0
+sumOf (tap ∷ taps) (sample ∷ history) = tap *ℤ sample +ℤ sumOf taps history
+
+-- "The output is P / 2^15 rounded toward minus infinity,"
+unfoldable pub rounded : ℤ → ℤ
+rounded p = floor p (2 ^ 15)
+
+-- "then held to -32768..32767;"
+unfoldable pub held : ℤ → ℤ
+held y = hold signed 16 y
+
+-- "the clip flag is set exactly if holding changed it." (Theorems: `clips-changed`)
+unfoldable pub clips : ℤ → Bool
+clips y = not (fits signed 16 y)
+
+-- the output before it is held, the output, and its clip flag
+unfoldable pub levelOf : List ℤ → List ℤ → ℤ
+levelOf taps history = rounded (sumOf taps history)
+
+unfoldable pub outputOf : List ℤ → List ℤ → ℤ
+outputOf taps history = held (levelOf taps history)
+
+unfoldable pub clipOf : List ℤ → List ℤ → Bool
+clipOf taps history = clips (levelOf taps history)
+
+-- A block of samples, oldest first: the history after it; an output and a clip flag for each.
+unfoldable pub after : List ℤ → List ℤ → List ℤ
+after history [] = history
+after history (x ∷ xs) = after (next history x) xs
+
+unfoldable pub outputsOf : List ℤ → List ℤ → List ℤ → List ℤ
+outputsOf taps history [] = []
+outputsOf taps history (x ∷ xs) = outputOf taps (next history x) ∷ outputsOf taps (next history x) xs
+
+unfoldable pub clipsOf : List ℤ → List ℤ → List ℤ → List Bool
+clipsOf taps history [] = []
+clipsOf taps history (x ∷ xs) = clipOf taps (next history x) ∷ clipsOf taps (next history x) xs
+
+pub record Run : Type 0 where
+  pub outputs : List ℤ
+  pub flags : List Bool
+  pub final : List ℤ
+
+unfoldable pub runOf : List ℤ → List ℤ → List ℤ → Run
+runOf taps history samples =
+    record { outputs = outputsOf taps history samples; flags = clipsOf taps history samples; final = after history samples }
+
+-- a clip flag as a byte, and the number of outputs that clipped
+unfoldable pub bitOf : Bool → ℕ
+bitOf false = 0
+bitOf true = 1
+
+unfoldable pub clipped : List Bool → ℕ
+clipped [] = 0
+clipped (b ∷ flags) = bitOf b + clipped flags
+
+-- What is refused: "lists of unequal length" is 5, before "taps not 1 to 64", 40; 0 where nothing is.
+unfoldable pub tapsFault : ℕ → ℕ
+tapsFault n = cond (eqb n 0) 40 (cond (leb n mostTaps) 0 40)
+
+unfoldable pub blockFault : ℕ → ℕ → ℕ → ℕ → ℕ
+blockFault n samples outputs clips = cond (eqb samples outputs) (cond (eqb samples clips) (tapsFault n) 5) 5
+
+unfoldable pub headFault : ℕ → ℕ → ℕ
+headFault n places = cond (eqb n places) (tapsFault n) 5
+
+-- Headroom. "each is the end of the range that drives its term furthest that way, and 0 for a zero tap"
+unfoldable pub bySign : ℤ → ℤ → ℤ → ℤ
+bySign tap above below = cond (ltZ (pos 0) tap) above (cond (ltZ tap (pos 0)) below (pos 0))
+
+unfoldable pub drivenOf : Way → ℤ → ℤ
+drivenOf High tap = bySign tap (highest signed 16) (lowest signed 16)
+drivenOf Low tap = bySign tap (lowest signed 16) (highest signed 16)
+
+-- "n samples, newest first, that clip that way"
+abbrev pub driving : Way → List ℤ → List ℤ
+driving way taps = map (drivenOf way) taps
+
+-- past the end of the range that way
+unfoldable pub passes : Way → ℤ → Bool
+passes High y = ltZ (highest signed 16) y
+passes Low y = ltZ y (lowest signed 16)
+
+-- what the taps make of the samples that drive them furthest that way (Theorems: no samples reach further)
+unfoldable pub clipsWay : Way → List ℤ → Bool
+clipsWay way taps = passes way (levelOf taps (driving way taps))
+
+-- "Verdict 0: no samples clip. 1: some samples clip high; 2: none clip high, some clip low." (Theorems: `sound`, `complete`)
+unfoldable pub verdictOf : List ℤ → ℕ
+verdictOf taps = cond (clipsWay High taps) 1 (cond (clipsWay Low taps) 2 0)
+
+-- "With 1 or 2 the lent sample buffer, of exactly n places, holds n samples"; "With 0 it is unchanged."
+unfoldable pub witnessOf : List ℤ → List ℤ → List ℤ
+witnessOf taps before = cond (clipsWay High taps) (driving High taps) (cond (clipsWay Low taps) (driving Low taps) before)
