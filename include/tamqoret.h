@@ -7,6 +7,7 @@
 #ifndef TAMQORET_H
 #define TAMQORET_H
 
+#include <stddef.h>
 #include <stdint.h>
 
 #ifdef __cplusplus
@@ -36,14 +37,36 @@ enum {
 /* refusals */
 enum {
     TQ_DONE = 0,
-    TQ_WRONG_WIDTH = 1, /* the width is not 8, 16, 32 or 64 */
-    TQ_WRONG_FRAC = 2,  /* more fraction bits than the width */
-    TQ_OVERFLOW = 10    /* the result does not fit; strict manner only */
+    TQ_WRONG_WIDTH = 1,    /* the width is not 8, 16, 32 or 64 */
+    TQ_WRONG_FRAC = 2,     /* more fraction bits than the width */
+    TQ_WRONG_LENGTH = 5,   /* a buffer too small, or lists of unequal length */
+    TQ_OVERFLOW = 10,      /* the result does not fit; strict manner only */
+    TQ_NOT_POSITIVE = 32,  /* logarithm of zero or of a negative number */
+    TQ_WRONG_TAPS = 40     /* taps not 1 to 64 */
 };
 
 /* An exact whole number of steps into a format: the magnitude is high * 2^64 + low, negative unless neg is 0. */
 tq_signed tq_settle_signed(uint32_t neg, uint64_t high, uint64_t low, uint32_t width, uint32_t frac, uint32_t manner);
 tq_unsigned tq_settle_unsigned(uint32_t neg, uint64_t high, uint64_t low, uint32_t width, uint32_t frac, uint32_t manner);
+
+/* The greatest k with 10^k <= raw / 2^frac, as value; TQ_NOT_POSITIVE where there is none. */
+tq_signed tq_log10_signed(int64_t raw, uint32_t width, uint32_t frac);
+tq_signed tq_log10_unsigned(uint64_t raw, uint32_t width, uint32_t frac);
+
+/* The filter's state: the last 64 samples, newest first. All 0 at the start. */
+typedef struct {
+    int16_t samples[64];
+} tq_state;
+
+/* A block through the filter. Taps and samples are signed raws of 16 bits with 15 fraction bits. outputs and clips have a place for
+ * each sample (TQ_WRONG_LENGTH otherwise); a clip byte is 1 where the output was held to the range, else 0. The value is the number of
+ * outputs that clipped in this block. With a refusal nothing lent is changed. */
+tq_unsigned tq_filter(const int16_t *taps, size_t n, tq_state *state, const int16_t *samples, size_t len, int16_t *outputs, size_t out_len,
+                      uint8_t *clips, size_t clips_len);
+
+/* Whether the taps can ever clip, whatever the samples. Value 0: never. 1: some samples clip high. 2: none clip high, some clip low.
+ * With 1 and 2 witness, of exactly n places, holds samples that do, newest first; with 0 and with a refusal it is unchanged. */
+tq_unsigned tq_headroom(const int16_t *taps, size_t n, int16_t *witness, size_t m);
 
 #ifdef __cplusplus
 }

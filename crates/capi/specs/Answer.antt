@@ -44,3 +44,14 @@ copied-unsigned x f e = rw e
 pub copied-refusal-unsigned : {a : UnsignedAnswer} (n : ℕ) → a ≡ RefusedU n → _≡_ {A = CUnsigned} (record { number = n; flag = 0; value = 0 }) (unsignedOf a)
 unfolding unsignedOf numberU valueU flagU
 copied-refusal-unsigned n e = rw e
+
+-- An answer of the library that meets its promise, copied.
+pub record Signed (P : SignedAnswer → Type 0) (r : CSigned) : Type 0 where
+  pub answer : SignedAnswer
+  pub copied : r ≡ signedOf answer
+  pub meets : P answer
+
+pub record Unsigned (P : UnsignedAnswer → Type 0) (r : CUnsigned) : Type 0 where
+  pub answer : UnsignedAnswer
+  pub copied : r ≡ unsignedOf answer
+  pub meets : P answer

@@ -1,3 +1,5 @@
 // The C interface: each function calls one public function of the library and copies its answer (include/tamqoret.h).
 mod answer;
-pub mod settle;
+pub mod c_filter;
+pub mod c_log10;
+pub mod c_settle;

@@ -1,19 +1,20 @@
 -- The three answers of an entry, over plain values: the format's refusal, 32, and the logarithm; and that a format without fault has at most 64 fraction bits.
 -- Assumes nothing.
 use mathlib.Core.Path.{_≡_, refl, sym, subst, _∙_}
-use mathlib.Core.Bool.{Bool, true, false, cond}
+use mathlib.Core.Bool.{false}
 use Prim.Native.Nat.{ℕ, zero, suc, _≤_, _<_}
 use native.Mathlib.Omega.{arith}
-use lib.Dec.{T, leb, eqb}
+use lib.Dec.{T}
 use lib.IntN.{ℤ, pos, negsuc, natAbs}
 use lib.Signed.{nonNeg, _≤ℤ_, _<ℤ_}
 use mir.Syntax.{w64}
 use mir.Val.{Fits, SFits}
-use borrow.Author.Tests.{eqb-true, leb-true, ne-eqb}
+use borrow.Author.Tests.{ne-eqb}
 use Rattle.laws.specs.Diff.{orders}
 use Rattle.laws.specs.Bound.{sfits-out}
 use Rattle.format.specs.declared.SignedAnswer.the-variants.{Done, Refused}
-use Rattle.format.specs.Meaning.{isWidth, faultOf, unless, signedAnswer}
+use Rattle.format.specs.Meaning.{faultOf, unless, signedAnswer}
+use Rattle.format.specs.Fault.{fault-free, width-bounds}
 use Rattle.log10.specs.Meaning.{log10Of, positiveOnly, log10Outcome}
 use Rattle.log10.specs.Promise.{SignedLog10}
 
@@ -54,22 +55,8 @@ positive x raw f e l = subst (λ (y : ℤ). Positive y raw) (sym e) (go raw f l)
     go (pos n) f l = record { cast = (tt, record { fits = omega (orders, sfits-out f) }); above = omega orders; same = refl }
     go (negsuc n) f l = absurd (omega orders)
 
--- a width is at most 64, and F at most the width
-width-64 : (w : ℕ) → isWidth w ≡ true → w ≤ 64
-unfolding isWidth
-width-64 w e = go (eqb w 8) (eqb w 16) (eqb w 32) (eqb-true w 8) (eqb-true w 16) (eqb-true w 32) (eqb-true w 64) e
-  where
-    go : (a b c : Bool) → (a ≡ true → w ≡ 8) → (b ≡ true → w ≡ 16) → (c ≡ true → w ≡ 32) → (eqb w 64 ≡ true → w ≡ 64) → cond a true (cond b true (cond c true (eqb w 64))) ≡ true → w ≤ 64
-    go true b c p q r s e = omega (arith, p refl)
-    go false true c p q r s e = omega (arith, q refl)
-    go false false true p q r s e = omega (arith, r refl)
-    go false false false p q r s e = omega (arith, s e)
-
+-- a format without fault has at most 64 fraction bits
 pub frac-64 : (w f : ℕ) {n : ℕ} → n ≡ faultOf w f → n ≡ 0 → f ≤ 64
-unfolding faultOf
-frac-64 w f e z = go (isWidth w) (leb f w) refl refl (sym e ∙ z)
-  where
-    go : (a b : Bool) → isWidth w ≡ a → leb f w ≡ b → _≡_ {A = ℕ} (cond a (cond b 0 2) 1) 0 → f ≤ 64
-    go true true p q e = omega (arith, width-64 w p, leb-true f w q)
-    go true false p q e = absurd (omega arith)
-    go false b p q e = absurd (omega arith)
+frac-64 w f e z =
+    let free = fault-free w f (sym e ∙ z) in
+    omega (arith, free, width-bounds w (free .0))

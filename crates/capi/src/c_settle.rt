@@ -1,7 +1,6 @@
 // tq_settle_signed, tq_settle_unsigned: an exact number, as a sign and two words, into a format. neg is 0 for a number that is not negative.
-ghost use mathlib.Core.Path.{_≡_};
-ghost use Rattle.format.specs.Meaning.{unless, faultOf, exact, signedAnswer, unsignedAnswer, signed as isSigned, unsigned as isUnsigned, settle as settleOf};
-ghost use Rattle.capi.specs.Answer.{signedOf, unsignedOf, mannerOf, someOf};
+ghost use Rattle.format.specs.Promise.{SettleSigned, SettleUnsigned};
+ghost use Rattle.capi.specs.Answer.{Signed, Unsigned, mannerOf, someOf};
 use crate::answer;
 use crate::answer::CSigned;
 use crate::answer::CUnsigned;
@@ -15,7 +14,7 @@ pub extern "C" fn tq_settle_signed(
     frac: u32,
     manner: u32,
 ) -> CSigned
-    ensures { λ r. ⌜ r ≡ signedOf (signedAnswer (unless (faultOf width frac) (settleOf (mannerOf manner) isSigned width (exact (someOf neg) high low)))) ⌝ }
+    ensures { λ r. ⌜ Signed (SettleSigned (someOf neg) high low width frac (mannerOf manner)) r ⌝ }
 {
     answer::signed(format::signed::settle(neg != 0, high, low, width, frac, answer::manner(manner)))
 }
@@ -29,7 +28,7 @@ pub extern "C" fn tq_settle_unsigned(
     frac: u32,
     manner: u32,
 ) -> CUnsigned
-    ensures { λ r. ⌜ r ≡ unsignedOf (unsignedAnswer (unless (faultOf width frac) (settleOf (mannerOf manner) isUnsigned width (exact (someOf neg) high low)))) ⌝ }
+    ensures { λ r. ⌜ Unsigned (SettleUnsigned (someOf neg) high low width frac (mannerOf manner)) r ⌝ }
 {
     answer::unsigned(format::unsigned::settle(
         neg != 0,
