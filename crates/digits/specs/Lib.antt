@@ -1,6 +1,12 @@
 pub mod Cases
+pub mod Exps
 pub mod Meaning
+pub mod Moves
+pub mod Places
 pub mod Promise
 pub mod Runs
+pub mod Second
+pub mod Spans
 pub mod Steps
 pub mod Theorems
+pub mod Zeros

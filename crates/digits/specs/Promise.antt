@@ -5,6 +5,9 @@ use mathlib.Core.List.{List}
 use Prim.Native.Nat.{ℕ, _-_}
 use lib.ListN.{length}
 use Rattle.digits.specs.declared.Digit.{Digit}
+use lib.IntN.{ℤ}
+use Rattle.digits.specs.declared.exp.IntFrac.{IntFrac}
+use Rattle.digits.specs.Second.{part, digitsExpOf, movedInt, movedFrac, StandsDropped}
 use Rattle.digits.specs.Meaning.{digitsOf, trimmed, uptoOf, fromOf, firstOf, lastOf, leadingZeros, trailingZeros}
 
 same : {A : Type 0} {m r s : A} → r ≡ m → s ≡ m → r ≡ s
@@ -81,3 +84,15 @@ WithoutTrailingZeros run r = r ≡ uptoOf run (length (digitsOf run) - trailingZ
 
 pub without-trailing-zeros-unique : (run : List ℕ) {r s : List ℕ} → WithoutTrailingZeros run r → WithoutTrailingZeros run s → r ≡ s
 without-trailing-zeros-unique run e f = same e f
+
+-- ---- the second layer: an answer is settled by the digits that it stands for
+
+abbrev pub NewIntFrac : List ℕ → ℕ → ℕ → ℕ → ℕ → ℤ → IntFrac → Type 0
+NewIntFrac text a b c d e r =
+    StandsDropped text r
+    (movedInt e (digitsOf (part text a b)) (digitsOf (part text c d)))
+    (movedFrac e (digitsOf (part text a b)) (digitsOf (part text c d)))
+
+pub new-int-frac-unique : (text : List ℕ) (a b c d : ℕ) (e : ℤ) {r s : IntFrac} → NewIntFrac text a b c d e r → NewIntFrac text a b c d e s
+    → (digitsExpOf text (r .int) ≡ digitsExpOf text (s .int)) × (digitsExpOf text (r .frac) ≡ digitsExpOf text (s .frac))
+new-int-frac-unique text a b c d e x y = (same (x .int .same) (y .int .same), same (x .frac .same) (y .frac .same))

@@ -2,6 +2,7 @@
 ghost use Rattle.digits.specs.Promise.{New, Len, Upto, From, First, AfterFirst, Last, BeforeLast, LeadingZeros, WithoutLeadingZeros, TrailingZeros, WithoutTrailingZeros};
 
 mod count;
+pub mod exp;
 mod part;
 
 // The digit at an end of a view, if there is one.

@@ -1,0 +1,27 @@
+-- `digits::exp::strip_back` meets its contract, by whether the second view has a digit left.
+-- Assumes nothing.
+use Rattle.digits.specs.Exps.{back-none, back-some}
+use borrow.Author.Needs.{needs}
+use Rattle.digits.proofs.exp.strip_back.Statement.{statement}
+use Rattle.digits.proofs.exp.strip_back.Tie as tie
+
+keep-front-requires : tie.Need-keep-front-requires
+keep-front-requires c κs = search needs
+
+keep-front-requires-2 : tie.Need-keep-front-requires-2
+keep-front-requires-2 c κs = search needs
+
+empty-requires : tie.Need-empty-requires
+empty-requires c κs = search needs
+
+returns : tie.Need-returns
+returns c =
+    back-none _ _ _ (c .before .before .before .before .keep-front .ensures) (c .before .before .if1 .taken) (c .before .keep-front2 .ensures) (c .empty .ensures)
+
+returns-2 : tie.Need-returns-2
+returns-2 c =
+    back-some _ _ _ (c .before .before .keep-front .ensures) (c .if1 .left) (c .before .before .before .before .pre .0)
+
+pub strip-back-spec : {M : Type 1} → statement M
+strip-back-spec =
+    tie.close (tie.spec keep-front-requires keep-front-requires-2 empty-requires returns returns-2)
