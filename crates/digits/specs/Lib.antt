@@ -1,5 +1,7 @@
 pub mod Cases
+pub mod Cuts
 pub mod Exps
+pub mod Firsts
 pub mod Meaning
 pub mod Moves
 pub mod Places

@@ -26,13 +26,13 @@ use Rattle.digits.specs.Spans.{empty-stands}
 zeros-split : (k n : ℕ) → k ≤ n → zeros k ++ zeros (n - k) ≡ zeros n
 zeros-split k n h = let e : k + (n - k) ≡ n = omega arith in replicate-append-replicate k (n - k) 48 ∙ ap zeros e
 
-zeros-length : (n : ℕ) → length (zeros n) ≡ n
+pub zeros-length : (n : ℕ) → length (zeros n) ≡ n
 zeros-length n = length-replicate n 48
 
-take-zeros : (k n : ℕ) → k ≤ n → take k (zeros n) ≡ zeros k
+pub take-zeros : (k n : ℕ) → k ≤ n → take k (zeros n) ≡ zeros k
 take-zeros k n h = ap (take k) (sym (zeros-split k n h)) ∙ take-at (zeros k) (zeros (n - k)) k (zeros-length k)
 
-drop-zeros : (k n : ℕ) → k ≤ n → drop k (zeros n) ≡ zeros (n - k)
+pub drop-zeros : (k n : ℕ) → k ≤ n → drop k (zeros n) ≡ zeros (n - k)
 drop-zeros k n h = ap (drop k) (sym (zeros-split k n h)) ∙ drop-at (zeros k) (zeros (n - k)) k (zeros-length k)
 
 -- ---- to the right

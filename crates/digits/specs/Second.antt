@@ -9,6 +9,8 @@ use Rattle.digits.specs.declared.exp.Span.{Span}
 use Rattle.digits.specs.declared.exp.Pair.{Pair}
 use Rattle.digits.specs.declared.exp.DigitsExp.{DigitsExp}
 use Rattle.digits.specs.declared.exp.IntFrac.{IntFrac}
+use Rattle.digits.specs.declared.exp.FirstDigit.{FirstDigit}
+use Rattle.digits.specs.declared.exp.FirstDigit.the-variants.{Is, Nothing}
 use Rattle.digits.specs.Meaning.{isZero, digitsOf, dropWhile, dropBack, IsView}
 
 -- the bytes from a up to e
@@ -86,3 +88,12 @@ pub record StandsDropped (text : List ℕ) (x : IntFrac) (i f : List ℕ) : Type
 -- the same where the digits of two spans are moved in a way
 abbrev pub Moved : List ℕ → IntFrac → (List ℕ → List ℕ → List ℕ) → (List ℕ → List ℕ → List ℕ) → Span → Span → Type 0
 Moved text x int frac a b = StandsDropped text x (int (spanOf text a) (spanOf text b)) (frac (spanOf text a) (spanOf text b))
+
+-- "first .. digit": what the first digit and the others stand for, and that the others are such a whole again
+unfoldable pub firstDigits : List ℕ → FirstDigit → List ℕ
+firstDigits text Nothing = []
+firstDigits text (Is b x) = b ∷ digitsExpOf text x
+
+unfoldable pub RestIs : List ℕ → FirstDigit → Type 0
+RestIs text Nothing = Unit {0}
+RestIs text (Is b x) = IsExp text x

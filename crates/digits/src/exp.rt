@@ -2,14 +2,15 @@
 // digit count. Zeros are counts: no exponent is ever written out.
 ghost use mathlib.Core.Path.{_≡_};
 ghost use mathlib.Core.Bool.{cond};
-ghost use mathlib.Core.List.{_++_};
-ghost use Prim.Native.Nat.{_<_, _≤_, min};
+ghost use mathlib.Core.List.{_∷_, _++_};
+ghost use Prim.Native.Nat.{_-_, _^_, _<_, _≤_, min};
 ghost use lib.ListN.{length, take, drop};
 ghost use lib.Dec.{eqb};
 ghost use lib.IntN.{natAbs};
 ghost use Rattle.digits.specs.Meaning.{isZero, digitsOf, dropWhile, dropBack};
 ghost use Rattle.digits.specs.Second.{part, zeros, spanOf, emptySpan, emptyExp, IsSpan, Stands, StandsPair, IsExp, StandsExp, Moved, rightInt, rightFrac, leftInt, leftFrac, digitsExpOf};
-ghost use Rattle.digits.specs.Promise.{NewIntFrac};
+ghost use Rattle.digits.specs.Cuts.{cutOf};
+ghost use Rattle.digits.specs.Promise.{NewIntFrac, LenExp, SplitAt, SplitFirst};
 use super::count;
 use super::part;
 
@@ -299,4 +300,140 @@ pub fn new_int_frac(
         return move_left(text, int, frac, n);
     }
     move_right(text, int, frac, n)
+}
+
+// How many digits there are. Whoever calls it shows that the count fits.
+pub fn len(text: &[u8], d: DigitsExp) -> usize
+    requires { ⌜ IsExp (now text) d × (length (digitsExpOf (now text) d) < 2 ^ 64) ⌝ }
+    ensures { λ r. ⌜ LenExp (now (text .entry)) d r ⌝ }
+{
+    let part1 = d.part1;
+    let part2 = d.part2;
+    d.leading_zeros + part1.digits + part2.digits + d.trailing_zeros
+}
+
+// How many digits a split takes of each: of the zeros in front, of either view, and of the zeros behind.
+pub struct Counts {
+    pub front: usize,
+    pub one: usize,
+    pub two: usize,
+    pub behind: usize,
+}
+
+// What is left of n past m.
+fn past(n: usize, m: usize) -> usize
+    ensures { λ r. ⌜ r ≡ n - m ⌝ }
+{
+    if m <= n { n - m } else { 0 }
+}
+
+fn cut(d: DigitsExp, mid: usize) -> Counts
+    ensures { λ r. ⌜ r ≡ cutOf d mid ⌝ }
+{
+    let part1 = d.part1;
+    let part2 = d.part2;
+    let after = past(mid, d.leading_zeros);
+    let beyond = past(after, part1.digits);
+    Counts {
+        front: smaller(mid, d.leading_zeros),
+        one: smaller(after, part1.digits),
+        two: smaller(beyond, part2.digits),
+        behind: smaller(past(beyond, part2.digits), d.trailing_zeros),
+    }
+}
+
+// The first `mid` digits: all where there are fewer.
+fn upto(text: &[u8], d: DigitsExp, mid: usize) -> DigitsExp
+    requires { ⌜ IsExp (now text) d ⌝ }
+    ensures { λ r. ⌜ StandsExp (now (text .entry)) r (take mid (digitsExpOf (now (text .entry)) d)) ⌝ }
+{
+    let c = cut(d, mid);
+    let part1 = d.part1;
+    let part2 = d.part2;
+    DigitsExp {
+        leading_zeros: c.front,
+        part1: keep(text, part1, c.one),
+        part2: keep(text, part2, c.two),
+        trailing_zeros: c.behind,
+    }
+}
+
+// The digits after the first `mid`: none where there are fewer.
+fn from(text: &[u8], d: DigitsExp, mid: usize) -> DigitsExp
+    requires { ⌜ IsExp (now text) d ⌝ }
+    ensures { λ r. ⌜ StandsExp (now (text .entry)) r (drop mid (digitsExpOf (now (text .entry)) d)) ⌝ }
+{
+    let c = cut(d, mid);
+    let part1 = d.part1;
+    let part2 = d.part2;
+    DigitsExp {
+        leading_zeros: d.leading_zeros - c.front,
+        part1: skip(text, part1, c.one),
+        part2: skip(text, part2, c.two),
+        trailing_zeros: d.trailing_zeros - c.behind,
+    }
+}
+
+pub struct Halves {
+    pub first: DigitsExp,
+    pub last: DigitsExp,
+}
+
+// The first `mid` digits and the others.
+pub fn split_at(text: &[u8], d: DigitsExp, mid: usize) -> Halves
+    requires { ⌜ IsExp (now text) d ⌝ }
+    ensures { λ r. ⌜ SplitAt (now (text .entry)) d mid r ⌝ }
+{
+    let first = upto(text, d, mid);
+    let last = from(text, d, mid);
+    Halves { first, last }
+}
+
+// The first digit with the others behind it, if there is one.
+pub enum FirstDigit {
+    Is { digit: u8, rest: DigitsExp },
+    Nothing,
+}
+
+// The first digit of a view that has one: its first byte, since no view starts with `_`.
+fn first_digit(text: &[u8], s: Span) -> u8
+    requires { ⌜ IsSpan (now text) s × (0 < s .digits) ⌝ }
+    ensures { λ r. ⌜ r ∷ drop 1 (spanOf (now (text .entry)) s) ≡ spanOf (now (text .entry)) s ⌝ }
+{
+    let view = view_of(text, s);
+    view[0]
+}
+
+// The first digit, and the others: a zero in front, a digit of either view, or a zero behind.
+pub fn split_first(text: &[u8], mut d: DigitsExp) -> FirstDigit
+    requires { ⌜ IsExp (now text) d ⌝ }
+    ensures { λ r. ⌜ SplitFirst (now (text .entry)) d r ⌝ }
+{
+    if 0 < d.leading_zeros {
+        d.leading_zeros -= 1;
+        return FirstDigit::Is {
+            digit: b'0',
+            rest: d,
+        };
+    }
+    let part1 = d.part1;
+    if 0 < part1.digits {
+        let digit = first_digit(text, part1);
+        d.part1 = skip(text, part1, 1);
+        return FirstDigit::Is { digit, rest: d };
+    }
+    let part2 = d.part2;
+    if 0 < part2.digits {
+        let digit = first_digit(text, part2);
+        d.part2 = skip(text, part2, 1);
+        return FirstDigit::Is { digit, rest: d };
+    }
+    if 0 < d.trailing_zeros {
+        d.trailing_zeros -= 1;
+        return FirstDigit::Is {
+            digit: b'0',
+            rest: d,
+        };
+    }
+    FirstDigit::Nothing
 }
