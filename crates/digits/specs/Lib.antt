@@ -1,14 +1,7 @@
 pub mod Cases
-pub mod Cuts
-pub mod Exps
-pub mod Firsts
 pub mod Meaning
-pub mod Moves
-pub mod Places
 pub mod Promise
 pub mod Runs
 pub mod Second
-pub mod Spans
-pub mod Steps
 pub mod Theorems
 pub mod Zeros

@@ -3,10 +3,10 @@
 use mathlib.Core.Path.{_≡_, refl, sym, ap, _∙_}
 use mathlib.Core.Bool.{Bool, true, false, cond}
 use mathlib.Core.List.{List, [], _∷_, _++_, reverse, reverse-append, reverse-reverse, reverse-cons, append-nil}
-use Prim.Native.Nat.{ℕ, suc, _+_, _-_, _≤_, _<_}
+use Prim.Native.Nat.{ℕ, zero, suc, _+_, _-_, _≤_, _<_}
 use native.Mathlib.Numerals.{add-one}
 use native.Mathlib.Omega.{arith}
-use lib.ListN.{length, take, drop, getD, length-append, length-drop, length-reverse, drop-of-length-le}
+use lib.ListN.{length, take, drop, getD, length-append, length-drop, length-reverse, drop-of-length-le, replicate}
 use lib.Seq.{drop-cons, take-suc, take-all, take-length, drop-append-seam, take-append-seam}
 use lib.Dec.{eqb}
 use borrow.Author.Tests.{eq-eqb, ne-eqb}
@@ -187,3 +187,12 @@ drop-head t n = ap (λ (l : List ℕ). drop (length (headOf t n)) l) (sym (parts
 
 pub head-length : (t : List ℕ) (n : ℕ) → length (headOf t n) ≤ length t
 head-length t n = omega (arith, length-append (headOf t n) (tailOf t n), ap length (parts-whole t n))
+
+-- ---- a list of one byte, read from behind
+replicate-snoc : (n x : ℕ) → replicate n x ++ (x ∷ []) ≡ x ∷ replicate n x
+replicate-snoc zero x = refl
+replicate-snoc (suc n) x = ap (λ (l : List ℕ). x ∷ l) (replicate-snoc n x)
+
+pub replicate-reverse : (n x : ℕ) → reverse (replicate n x) ≡ replicate n x
+replicate-reverse zero x = refl
+replicate-reverse (suc n) x = reverse-cons x (replicate n x) ∙ ap (λ (l : List ℕ). l ++ (x ∷ [])) (replicate-reverse n x) ∙ replicate-snoc n x

@@ -2,13 +2,14 @@
 -- Assumes nothing.
 use mathlib.Core.Path.{_≡_}
 use mathlib.Core.List.{List, [], _∷_, _++_}
-use Prim.Native.Nat.{ℕ, suc, _-_}
+use Prim.Native.Nat.{ℕ, suc, _-_, min}
 use lib.ListN.{length, take, drop, replicate}
 use lib.IntN.{ℤ, pos, negsuc}
 use Rattle.digits.specs.declared.exp.Span.{Span}
 use Rattle.digits.specs.declared.exp.Pair.{Pair}
 use Rattle.digits.specs.declared.exp.DigitsExp.{DigitsExp}
 use Rattle.digits.specs.declared.exp.IntFrac.{IntFrac}
+use Rattle.digits.specs.declared.exp.Counts.{Counts}
 use Rattle.digits.specs.declared.exp.FirstDigit.{FirstDigit}
 use Rattle.digits.specs.declared.exp.FirstDigit.the-variants.{Is, Nothing}
 use Rattle.digits.specs.Meaning.{isZero, digitsOf, dropWhile, dropBack, IsView}
@@ -97,3 +98,13 @@ firstDigits text (Is b x) = b ∷ digitsExpOf text x
 unfoldable pub RestIs : List ℕ → FirstDigit → Type 0
 RestIs text Nothing = Unit {0}
 RestIs text (Is b x) = IsExp text x
+
+-- How many digits a split at n takes of each: of the zeros in front, of either view, and of the zeros behind: as many as there are, or as are still wanted
+unfoldable pub cutOf : DigitsExp → ℕ → Counts
+cutOf x n =
+    record {
+      front = min n (x .«leading_zeros»);
+      one = min (n - x .«leading_zeros») (x .part1 .digits);
+      two = min (n - x .«leading_zeros» - x .part1 .digits) (x .part2 .digits);
+      behind = min (n - x .«leading_zeros» - x .part1 .digits - x .part2 .digits) (x .«trailing_zeros»);
+    }

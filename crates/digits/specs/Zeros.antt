@@ -2,14 +2,15 @@
 -- Assumes nothing.
 use mathlib.Core.Path.{_≡_, refl, sym, ap, _∙_}
 use mathlib.Core.Bool.{Bool, true, false, cond}
-use mathlib.Core.List.{List, [], _∷_, _++_, reverse, reverse-append, reverse-reverse, append-assoc, append-nil}
-use Prim.Native.Nat.{ℕ, zero, suc, _+_}
+use mathlib.Core.List.{List, [], _∷_, _++_, reverse, reverse-append, reverse-reverse}
+use Prim.Native.Nat.{ℕ, zero, suc, _+_, _-_, _≤_}
 use native.Mathlib.Omega.{arith}
-use lib.ListN.{length, replicate, length-append, length-reverse}
+use lib.ListN.{length, take, drop, length-replicate, replicate-append-replicate}
+use lib.Seq.{take-at, drop-at}
 use lib.Dec.{eqb}
 use borrow.Author.Tests.{eq-eqb, ne-eqb}
 use Rattle.digits.specs.Meaning.{isZero, dropWhile, dropBack}
-use Rattle.digits.specs.Theorems.{replicate-reverse}
+use Rattle.digits.specs.Runs.{replicate-reverse}
 use Rattle.digits.specs.Second.{zeros}
 
 pub no-length : (l : List ℕ) → length l ≡ 0 → l ≡ []
@@ -65,6 +66,19 @@ zeros-while (suc n) = zeros-while n
 pub zeros-back : (n : ℕ) → dropBack isZero (zeros n) ≡ []
 unfolding dropBack
 zeros-back n = ap (λ (l : List ℕ). reverse (dropWhile isZero l)) (replicate-reverse n 48) ∙ ap reverse (zeros-while n)
+
+-- ---- a part of zeros is zeros
+zeros-split : (k n : ℕ) → k ≤ n → zeros k ++ zeros (n - k) ≡ zeros n
+zeros-split k n h = let e : k + (n - k) ≡ n = omega arith in replicate-append-replicate k (n - k) 48 ∙ ap zeros e
+
+pub zeros-length : (n : ℕ) → length (zeros n) ≡ n
+zeros-length n = length-replicate n 48
+
+pub take-zeros : (k n : ℕ) → k ≤ n → take k (zeros n) ≡ zeros k
+take-zeros k n h = ap (take k) (sym (zeros-split k n h)) ∙ take-at (zeros k) (zeros (n - k)) k (zeros-length k)
+
+pub drop-zeros : (k n : ℕ) → k ≤ n → drop k (zeros n) ≡ zeros (n - k)
+drop-zeros k n h = ap (drop k) (sym (zeros-split k n h)) ∙ drop-at (zeros k) (zeros (n - k)) k (zeros-length k)
 
 -- ---- x zeros where there are digits before or after them, else none
 unfoldable pub onlyIf : List ℕ → ℕ → ℕ

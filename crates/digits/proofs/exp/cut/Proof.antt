@@ -1,6 +1,6 @@
 -- `digits::exp::cut` meets its contract, from what the calls ensure.
 -- Assumes nothing.
-use Rattle.digits.specs.Cuts.{cut-is}
+use Rattle.digits.proofs.Cuts.{cut-is}
 use borrow.Author.Needs.{needs}
 use Rattle.digits.proofs.exp.cut.Statement.{statement}
 use Rattle.digits.proofs.exp.cut.Tie as tie

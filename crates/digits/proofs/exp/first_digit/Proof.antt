@@ -1,6 +1,6 @@
 -- `digits::exp::first_digit` meets its contract: the view starts with a digit.
 -- Assumes nothing.
-use Rattle.digits.specs.Firsts.{view-some}
+use Rattle.digits.proofs.Firsts.{view-some}
 use borrow.Author.Needs.{needs}
 use Rattle.digits.proofs.exp.first_digit.Statement.{statement}
 use Rattle.digits.proofs.exp.first_digit.Tie as tie

@@ -1,6 +1,6 @@
 -- `digits::exp::from` meets its contract. The four counts leave the other digits of the whole.
 -- Assumes nothing.
-use Rattle.digits.specs.Cuts.{cut-within, from-exp}
+use Rattle.digits.proofs.Cuts.{cut-within, from-exp}
 use borrow.Author.Needs.{needs}
 use Rattle.digits.proofs.exp.from.Statement.{statement}
 use Rattle.digits.proofs.exp.from.Tie as tie

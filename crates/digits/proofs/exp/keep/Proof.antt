@@ -1,11 +1,10 @@
 -- `digits::exp::keep` meets its contract, by whether any digit is kept.
 -- Assumes nothing.
 use mathlib.Core.Path.{sym, ap}
-use mathlib.Core.List.{List}
 use Prim.Native.Nat.{ℕ}
 use lib.ListN.{take}
 use Rattle.digits.specs.Second.{spanOf}
-use Rattle.digits.specs.Spans.{empty-stands, stands-as}
+use Rattle.digits.proofs.Spans.{empty-stands, stands-as}
 use borrow.Author.Needs.{needs}
 use Rattle.digits.proofs.exp.keep.Statement.{statement}
 use Rattle.digits.proofs.exp.keep.Tie as tie

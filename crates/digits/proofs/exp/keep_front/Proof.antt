@@ -1,6 +1,6 @@
 -- `digits::exp::keep_front` meets its contract: all digits are kept but the zeros behind.
 -- Assumes nothing.
-use Rattle.digits.specs.Spans.{trailing-fits, trailing-stands}
+use Rattle.digits.proofs.Spans.{trailing-fits, trailing-stands}
 use borrow.Author.Needs.{needs}
 use Rattle.digits.proofs.exp.keep_front.Statement.{statement}
 use Rattle.digits.proofs.exp.keep_front.Tie as tie

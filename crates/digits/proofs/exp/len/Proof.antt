@@ -1,6 +1,6 @@
 -- `digits::exp::len` meets its promise: the four counts make up the length.
 -- Assumes nothing.
-use Rattle.digits.specs.Cuts.{len-is, len-fits}
+use Rattle.digits.proofs.Cuts.{len-is, len-fits}
 use Rattle.digits.proofs.exp.len.Statement.{statement}
 use Rattle.digits.proofs.exp.len.Tie as tie
 

@@ -1,8 +1,8 @@
 -- `digits::exp::move_left` meets its contract, by whether all digits of the integer are moved.
 -- Assumes nothing.
 use native.Mathlib.Omega.{arith}
-use Rattle.digits.specs.Spans.{empty-stands}
-use Rattle.digits.specs.Moves.{left-moved-all, left-moved-some}
+use Rattle.digits.proofs.Spans.{empty-stands}
+use Rattle.digits.proofs.Moves.{left-moved-all, left-moved-some}
 use borrow.Author.Needs.{needs}
 use Rattle.digits.proofs.exp.move_left.Statement.{statement}
 use Rattle.digits.proofs.exp.move_left.Tie as tie

@@ -1,8 +1,8 @@
 -- `digits::exp::move_right` meets its contract, by whether all digits of the fraction are moved.
 -- Assumes nothing.
 use native.Mathlib.Omega.{arith}
-use Rattle.digits.specs.Spans.{empty-stands}
-use Rattle.digits.specs.Moves.{right-moved-all, right-moved-some}
+use Rattle.digits.proofs.Spans.{empty-stands}
+use Rattle.digits.proofs.Moves.{right-moved-all, right-moved-some}
 use borrow.Author.Needs.{needs}
 use Rattle.digits.proofs.exp.move_right.Statement.{statement}
 use Rattle.digits.proofs.exp.move_right.Tie as tie

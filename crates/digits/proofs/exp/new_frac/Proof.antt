@@ -1,6 +1,6 @@
 -- `digits::exp::new_frac` meets its contract. The zeros in front stay where a digit is left.
 -- Assumes nothing.
-use Rattle.digits.specs.Exps.{frac-stands}
+use Rattle.digits.proofs.Exps.{frac-stands}
 use borrow.Author.Needs.{needs}
 use Rattle.digits.proofs.exp.new_frac.Statement.{statement}
 use Rattle.digits.proofs.exp.new_frac.Tie as tie

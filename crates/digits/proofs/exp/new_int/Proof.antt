@@ -1,6 +1,6 @@
 -- `digits::exp::new_int` meets its contract. The zeros behind stay where a digit is left.
 -- Assumes nothing.
-use Rattle.digits.specs.Exps.{int-stands}
+use Rattle.digits.proofs.Exps.{int-stands}
 use borrow.Author.Needs.{needs}
 use Rattle.digits.proofs.exp.new_int.Statement.{statement}
 use Rattle.digits.proofs.exp.new_int.Tie as tie

@@ -1,6 +1,6 @@
 -- `digits::exp::new_int_frac` meets its promise, by the sign of the exponent.
 -- Assumes nothing.
-use Rattle.digits.specs.Moves.{goes-left, goes-right}
+use Rattle.digits.proofs.Moves.{goes-left, goes-right}
 use borrow.Author.Needs.{needs}
 use Rattle.digits.proofs.exp.new_int_frac.Statement.{statement}
 use Rattle.digits.proofs.exp.new_int_frac.Tie as tie

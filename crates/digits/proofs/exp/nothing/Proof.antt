@@ -1,6 +1,5 @@
 -- `digits::exp::nothing` meets its contract, from that of the empty view.
 -- Assumes nothing.
-use mathlib.Core.Path.{ap, _∙_}
 use borrow.Author.Needs.{needs}
 use Rattle.digits.proofs.exp.nothing.Statement.{statement}
 use Rattle.digits.proofs.exp.nothing.Tie as tie

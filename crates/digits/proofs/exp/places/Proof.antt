@@ -1,6 +1,6 @@
 -- `digits::exp::places` meets its contract, by the sign of the exponent.
 -- Assumes nothing.
-use Rattle.digits.specs.Places.{widened, negated, below-cast, below-is, above-cast}
+use Rattle.digits.proofs.Places.{widened, negated, below-cast, below-is, above-cast}
 use borrow.Author.Needs.{needs}
 use Rattle.digits.proofs.exp.places.Statement.{statement}
 use Rattle.digits.proofs.exp.places.Tie as tie

@@ -4,7 +4,7 @@ use mathlib.Core.Path.{sym, ap}
 use Prim.Native.Nat.{ℕ}
 use lib.ListN.{drop}
 use Rattle.digits.specs.Second.{spanOf}
-use Rattle.digits.specs.Spans.{self-stands, stands-as}
+use Rattle.digits.proofs.Spans.{self-stands, stands-as}
 use borrow.Author.Needs.{needs}
 use Rattle.digits.proofs.exp.skip.Statement.{statement}
 use Rattle.digits.proofs.exp.skip.Tie as tie

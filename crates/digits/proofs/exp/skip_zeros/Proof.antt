@@ -1,6 +1,6 @@
 -- `digits::exp::skip_zeros` meets its contract: as many digits are skipped as there are zeros in front.
 -- Assumes nothing.
-use Rattle.digits.specs.Spans.{leading-fits, leading-stands}
+use Rattle.digits.proofs.Spans.{leading-fits, leading-stands}
 use borrow.Author.Needs.{needs}
 use Rattle.digits.proofs.exp.skip_zeros.Statement.{statement}
 use Rattle.digits.proofs.exp.skip_zeros.Tie as tie

@@ -1,6 +1,6 @@
 -- `digits::exp::split_first` meets its promise, by where the first digit stands.
 -- Assumes nothing.
-use Rattle.digits.specs.Firsts.{first-front, first-one, first-two, first-behind, first-none}
+use Rattle.digits.proofs.Firsts.{first-front, first-one, first-two, first-behind, first-none}
 use borrow.Author.Needs.{needs}
 use Rattle.digits.proofs.exp.split_first.Statement.{statement}
 use Rattle.digits.proofs.exp.split_first.Tie as tie

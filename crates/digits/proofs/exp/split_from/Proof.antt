@@ -2,7 +2,7 @@
 -- Assumes nothing.
 use native.Mathlib.Omega.{arith}
 use Rattle.digits.specs.Second.{spanOf}
-use Rattle.digits.specs.Spans.{split-within, from-stands}
+use Rattle.digits.proofs.Spans.{split-within, from-stands}
 use borrow.Author.Needs.{needs}
 use Rattle.digits.proofs.exp.split_from.Statement.{statement}
 use Rattle.digits.proofs.exp.split_from.Tie as tie

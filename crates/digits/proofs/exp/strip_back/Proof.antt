@@ -1,6 +1,6 @@
 -- `digits::exp::strip_back` meets its contract, by whether the second view has a digit left.
 -- Assumes nothing.
-use Rattle.digits.specs.Exps.{back-none, back-some}
+use Rattle.digits.proofs.Exps.{back-none, back-some}
 use borrow.Author.Needs.{needs}
 use Rattle.digits.proofs.exp.strip_back.Statement.{statement}
 use Rattle.digits.proofs.exp.strip_back.Tie as tie

@@ -1,6 +1,6 @@
 -- `digits::exp::strip_front` meets its contract, by whether the first view has a digit left.
 -- Assumes nothing.
-use Rattle.digits.specs.Exps.{front-none, front-some}
+use Rattle.digits.proofs.Exps.{front-none, front-some}
 use borrow.Author.Needs.{needs}
 use Rattle.digits.proofs.exp.strip_front.Statement.{statement}
 use Rattle.digits.proofs.exp.strip_front.Tie as tie

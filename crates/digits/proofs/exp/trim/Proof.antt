@@ -2,7 +2,7 @@
 -- Assumes nothing.
 use mathlib.Core.Path.{refl}
 use native.Mathlib.Omega.{arith}
-use Rattle.digits.specs.Spans.{trim-start, trim-end, trim-stands}
+use Rattle.digits.proofs.Spans.{trim-start, trim-end, trim-stands}
 use borrow.Author.Needs.{needs}
 use Rattle.digits.proofs.exp.trim.Statement.{statement}
 use Rattle.digits.proofs.exp.trim.Tie as tie

@@ -1,6 +1,6 @@
 -- `digits::exp::upto` meets its contract. The four counts take the first digits of the whole.
 -- Assumes nothing.
-use Rattle.digits.specs.Cuts.{cut-within, upto-exp}
+use Rattle.digits.proofs.Cuts.{cut-within, upto-exp}
 use borrow.Author.Needs.{needs}
 use Rattle.digits.proofs.exp.upto.Statement.{statement}
 use Rattle.digits.proofs.exp.upto.Tie as tie

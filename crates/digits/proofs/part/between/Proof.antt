@@ -1,6 +1,6 @@
 -- `digits::part::between` meets its contract, by whether there is something between.
 -- Assumes nothing.
-use Rattle.digits.specs.Spans.{part-none, part-some}
+use Rattle.digits.proofs.Spans.{part-none, part-some}
 use borrow.Author.Needs.{needs}
 use Rattle.digits.proofs.part.between.Statement.{statement}
 use Rattle.digits.proofs.part.between.Tie as tie

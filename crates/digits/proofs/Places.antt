@@ -1,8 +1,6 @@
 -- How many places an exponent moves the point: the machine's casts and its negation give the exponent's magnitude. Assumes nothing.
 use mathlib.Core.Path.{_≡_, refl, sym, ap, subst, _∙_}
 use mathlib.Core.Bool.{true, false}
-use mathlib.Core.List.{List}
-use Prim.Native.Nat.{ℕ, suc}
 use native.Mathlib.Omega.{arith}
 use lib.Dec.{T}
 use lib.IntN.{ℤ, pos, negsuc, natAbs, _-ℤ_}
@@ -11,10 +9,9 @@ use mir.Syntax.{w32, w64}
 use mir.Val.{Fits, SFits, toZ, ofZ}
 use mir.Facts.{toZ-ofZ}
 use Rattle.laws.specs.Diff.{sub-out}
-use Rattle.laws.specs.Bound.{sfits-out, sfits-max, sfits-abs}
+use Rattle.laws.specs.Bound.{sfits-out, sfits-abs}
 use Rattle.laws.specs.Signed.{signed}
 use Rattle.laws.specs.Tests.{ltZ-true, ltZ-false}
-use Rattle.digits.specs.Second.{rightInt, rightFrac, leftInt, leftFrac, movedInt, movedFrac}
 
 -- the sign of a number, by its test
 below : (z : ℤ) → ltZ z (pos 0) ≡ true → pos 0 -ℤ z ≡ pos (natAbs z)

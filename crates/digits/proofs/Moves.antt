@@ -2,11 +2,11 @@
 -- Assumes nothing.
 use mathlib.Core.Path.{_≡_, refl, sym, ap, subst, _∙_}
 use mathlib.Core.Bool.{true, false}
-use mathlib.Core.List.{List, [], _∷_, _++_, append-assoc, append-nil}
-use Prim.Native.Nat.{ℕ, zero, suc, _+_, _-_, _≤_, _<_}
+use mathlib.Core.List.{List, [], _++_, append-assoc, append-nil}
+use Prim.Native.Nat.{ℕ, _+_, _-_, _≤_, _<_}
 use native.Mathlib.Omega.{arith}
-use lib.ListN.{length, take, drop, length-replicate, replicate-append-replicate}
-use lib.Seq.{take-append-le, drop-append-le, take-append-add, drop-append-add, take-at, drop-at}
+use lib.ListN.{length, take, drop}
+use lib.Seq.{take-append-le, drop-append-le, take-append-add, drop-append-add}
 use lib.IntN.{ℤ, pos, negsuc, natAbs}
 use lib.Signed.{ltZ}
 use mir.Syntax.{w32}
@@ -17,23 +17,10 @@ use Rattle.laws.specs.Tests.{ltZ-true, ltZ-false}
 use Rattle.digits.specs.declared.exp.Span.{Span}
 use Rattle.digits.specs.declared.exp.DigitsExp.{DigitsExp}
 use Rattle.digits.specs.declared.exp.IntFrac.{IntFrac}
-use Rattle.digits.specs.Meaning.{isZero, dropWhile, dropBack, digitsOf}
-use Rattle.digits.specs.Zeros.{while-append-none, back-append-none, zeros-while, zeros-back}
-use Rattle.digits.specs.Second.{part, zeros, spanOf, emptySpan, emptyExp, IsSpan, Stands, StandsExp, digitsExpOf, rightInt, rightFrac, leftInt, leftFrac, movedInt, movedFrac, StandsDropped, Moved}
-use Rattle.digits.specs.Spans.{empty-stands}
-
--- ---- a part of zeros is zeros
-zeros-split : (k n : ℕ) → k ≤ n → zeros k ++ zeros (n - k) ≡ zeros n
-zeros-split k n h = let e : k + (n - k) ≡ n = omega arith in replicate-append-replicate k (n - k) 48 ∙ ap zeros e
-
-pub zeros-length : (n : ℕ) → length (zeros n) ≡ n
-zeros-length n = length-replicate n 48
-
-pub take-zeros : (k n : ℕ) → k ≤ n → take k (zeros n) ≡ zeros k
-take-zeros k n h = ap (take k) (sym (zeros-split k n h)) ∙ take-at (zeros k) (zeros (n - k)) k (zeros-length k)
-
-pub drop-zeros : (k n : ℕ) → k ≤ n → drop k (zeros n) ≡ zeros (n - k)
-drop-zeros k n h = ap (drop k) (sym (zeros-split k n h)) ∙ drop-at (zeros k) (zeros (n - k)) k (zeros-length k)
+use Rattle.digits.specs.Meaning.{isZero, dropWhile, dropBack}
+use Rattle.digits.specs.Zeros.{zeros-length, take-zeros, drop-zeros, while-append-none, back-append-none, zeros-while, zeros-back}
+use Rattle.digits.specs.Second.{zeros, spanOf, emptySpan, emptyExp, IsSpan, Stands, StandsExp, digitsExpOf, rightInt, rightFrac, leftInt, leftFrac, movedInt, movedFrac, StandsDropped, Moved}
+use Rattle.digits.proofs.Spans.{empty-stands}
 
 -- ---- to the right
 module _ (n : ℕ) (i f : List ℕ) where

@@ -1,7 +1,7 @@
 -- Laws of the second layer: what two views stand for without the zeros at an end, and with a count of zeros at the other. Assumes nothing.
-use mathlib.Core.Path.{_≡_, refl, sym, ap, _∙_}
+use mathlib.Core.Path.{_≡_, sym, ap, _∙_}
 use mathlib.Core.Bool.{cond}
-use mathlib.Core.List.{List, [], _∷_, _++_, append-assoc, append-nil}
+use mathlib.Core.List.{List, [], _++_, append-assoc, append-nil}
 use Prim.Native.Nat.{ℕ}
 use native.Mathlib.Omega.{arith}
 use lib.ListN.{length}
@@ -10,8 +10,8 @@ use Rattle.digits.specs.declared.exp.Span.{Span}
 use Rattle.digits.specs.declared.exp.Pair.{Pair}
 use Rattle.digits.specs.Meaning.{isZero, dropWhile, dropBack}
 use Rattle.digits.specs.Second.{zeros, spanOf, emptySpan, IsSpan, Stands, StandsPair, StandsExp, digitsExpOf}
-use Rattle.digits.specs.Zeros.{no-length, while-append-none, while-append-some, back-append-none, back-append-some, onlyIf, only-if, int-zeros, frac-zeros}
-use Rattle.digits.specs.Spans.{empty-stands}
+use Rattle.digits.specs.Zeros.{no-length, while-append-none, while-append-some, back-append-none, back-append-some, only-if, int-zeros, frac-zeros}
+use Rattle.digits.proofs.Spans.{empty-stands}
 
 -- a span has no digits where its count is 0
 none-left : {t : List ℕ} {x : Span} {d : List ℕ} → Stands t x d → x .digits ≡ 0 → d ≡ []
@@ -20,19 +20,17 @@ none-left {d = d} s z = no-length d (omega (arith, s .is .count, ap length (s .s
 some-left : {t : List ℕ} {x : Span} {d : List ℕ} → Stands t x d → (x .digits ≡ 0 → ⊥) → d ≡ [] → ⊥
 some-left s h e = h (omega (arith, s .is .count, ap length (s .same), ap length e))
 
+-- one view alone
+pair-one : (t : List ℕ) {y e : Span} {d d′ : List ℕ} → Stands t y d → e ≡ emptySpan → d ≡ d′ → StandsPair t (record { first = y; second = e }) d′
+pair-one t {y} s q h =
+    let n = empty-stands t q in
+    record { one = s .is; two = n .is; same = ap (λ (l : List ℕ). spanOf t y ++ l) (n .same) ∙ append-nil (spanOf t y) ∙ s .same ∙ h }
+
 -- ---- two views a and b without the zeros in front, or behind; x and y are the views that are left of them
 module _ (t : List ℕ) (a b : Span) where
   pub front-none : {x y e : Span} → Stands t x (dropWhile isZero (spanOf t a)) → x .digits ≡ 0 → Stands t y (dropWhile isZero (spanOf t b)) → e ≡ emptySpan
       → StandsPair t (record { first = y; second = e }) (dropWhile isZero (spanOf t a ++ spanOf t b))
-  front-none {y = y} sx z sy q =
-      let n = empty-stands t q in
-      record {
-        one = sy .is;
-        two = n .is;
-        same =
-            ap (λ (l : List ℕ). spanOf t y ++ l) (n .same) ∙ append-nil (spanOf t y) ∙ sy .same
-            ∙ sym (while-append-none isZero (spanOf t a) (spanOf t b) (none-left sx z));
-      }
+  front-none sx z sy q = pair-one t sy q (sym (while-append-none isZero (spanOf t a) (spanOf t b) (none-left sx z)))
 
   pub front-some : {x : Span} → Stands t x (dropWhile isZero (spanOf t a)) → (x .digits ≡ 0 → ⊥) → IsSpan t b
       → StandsPair t (record { first = x; second = b }) (dropWhile isZero (spanOf t a ++ spanOf t b))
@@ -45,15 +43,7 @@ module _ (t : List ℕ) (a b : Span) where
 
   pub back-none : {x y e : Span} → Stands t y (dropBack isZero (spanOf t b)) → y .digits ≡ 0 → Stands t x (dropBack isZero (spanOf t a)) → e ≡ emptySpan
       → StandsPair t (record { first = x; second = e }) (dropBack isZero (spanOf t a ++ spanOf t b))
-  back-none {x = x} sy z sx q =
-      let n = empty-stands t q in
-      record {
-        one = sx .is;
-        two = n .is;
-        same =
-            ap (λ (l : List ℕ). spanOf t x ++ l) (n .same) ∙ append-nil (spanOf t x) ∙ sx .same
-            ∙ sym (back-append-none isZero (spanOf t a) (spanOf t b) (none-left sy z));
-      }
+  back-none sy z sx q = pair-one t sx q (sym (back-append-none isZero (spanOf t a) (spanOf t b) (none-left sy z)))
 
   pub back-some : {y : Span} → Stands t y (dropBack isZero (spanOf t b)) → (y .digits ≡ 0 → ⊥) → IsSpan t a
       → StandsPair t (record { first = a; second = y }) (dropBack isZero (spanOf t a ++ spanOf t b))

@@ -1,16 +1,15 @@
 -- Laws of the spans of a text: where the view of a part lies in the text, and which digits the parts of a split stand for. Assumes nothing.
 use mathlib.Core.Path.{_≡_, refl, sym, ap, subst, _∙_}
 use mathlib.Core.List.{List, [], _∷_, _++_, append-assoc}
-use Prim.Native.Nat.{ℕ, zero, suc, _+_, _-_, _≤_, _<_}
+use Prim.Native.Nat.{ℕ, zero, suc, _+_, _-_, _≤_}
 use native.Mathlib.Nat.{sub-zero, zero-sub, suc-sub-suc}
 use native.Mathlib.Omega.{arith}
 use lib.ListN.{length, take, drop, length-take, length-drop, length-append, take-append-drop}
 use lib.Seq.{take-nil, take-take, drop-drop, take-append-seam, drop-append-seam}
 use Rattle.digits.specs.declared.exp.Span.{Span}
 use Rattle.digits.specs.Meaning.{isUnd, isZero, digitsOf, takeWhile, dropWhile, dropBack, trimmed, undsFront, undsBack, StartsWithNo, IsView, headOf, tailOf, leadingZeros, trailingZeros}
-use Rattle.digits.specs.Runs.{while-length, parts-whole, take-head, drop-head, head-length}
-use Rattle.digits.specs.Theorems.{trimmed-whole, trimmed-view, trimmed-digits, head-digits, tail-digits, leading-left, trailing-left}
-use Rattle.digits.specs.Steps.{leading-within, trailing-within}
+use Rattle.digits.specs.Runs.{while-length, take-head, drop-head, head-length}
+use Rattle.digits.specs.Theorems.{trimmed-whole, trimmed-view, trimmed-digits, head-digits, tail-digits, leading-within, trailing-within, leading-left, trailing-left}
 use Rattle.digits.specs.Second.{part, spanOf, emptySpan, IsSpan, Stands}
 
 -- ---- a part of the text

@@ -1,6 +1,5 @@
 -- The first digit of the second layer: where it stands, and what is left. Assumes nothing.
 use mathlib.Core.Path.{_≡_, refl, sym, ap, _∙_}
-use mathlib.Core.Bool.{Bool, true, false, cond}
 use mathlib.Core.List.{List, [], _∷_, _++_}
 use Prim.Native.Nat.{ℕ, suc, _-_, _≤_, _<_}
 use native.Mathlib.Omega.{arith}
@@ -9,7 +8,7 @@ use Rattle.digits.specs.declared.exp.Span.{Span}
 use Rattle.digits.specs.declared.exp.DigitsExp.{DigitsExp}
 use Rattle.digits.specs.declared.exp.FirstDigit.the-variants.{Is, Nothing}
 use Rattle.digits.specs.Meaning.{isUnd, digitsOf, StartsWithNo}
-use Rattle.digits.specs.Second.{part, zeros, spanOf, IsSpan, Stands, IsExp, StandsExp, digitsExpOf, firstDigits, RestIs}
+use Rattle.digits.specs.Second.{part, zeros, spanOf, IsSpan, Stands, IsExp, digitsExpOf, firstDigits, RestIs}
 use Rattle.digits.specs.Promise.{SplitFirst}
 use Rattle.digits.specs.Zeros.{no-length}
 
