@@ -6,6 +6,7 @@ use Prim.Native.Nat.{ℕ, _-_}
 use lib.ListN.{length, take, drop}
 use Rattle.digits.specs.declared.Digit.{Digit}
 use lib.IntN.{ℤ}
+use Rattle.digits.specs.declared.exp.Span.{Span}
 use Rattle.digits.specs.declared.exp.DigitsExp.{DigitsExp}
 use Rattle.digits.specs.declared.exp.IntFrac.{IntFrac}
 use Rattle.digits.specs.declared.exp.Halves.{Halves}
@@ -89,6 +90,12 @@ pub without-trailing-zeros-unique : (run : List ℕ) {r s : List ℕ} → Withou
 without-trailing-zeros-unique run e f = same e f
 
 -- ---- the second layer: an answer is settled by the digits that it stands for
+
+abbrev pub ViewOf : List ℕ → Span → List ℕ → Type 0
+ViewOf text s r = r ≡ part text (s .from) (s .to)
+
+pub view-of-unique : (text : List ℕ) (s : Span) {p q : List ℕ} → ViewOf text s p → ViewOf text s q → p ≡ q
+view-of-unique text s e f = same e f
 
 abbrev pub NewIntFrac : List ℕ → ℕ → ℕ → ℕ → ℕ → ℤ → IntFrac → Type 0
 NewIntFrac text a b c d e r =

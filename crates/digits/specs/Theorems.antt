@@ -146,6 +146,40 @@ pub split-whole : (t : List ℕ) (n : ℕ)
 unfolding uptoOf fromOf
 split-whole t n = rw (trimmed-whole (headOf t n), trimmed-whole (tailOf t n), parts-whole)
 
+-- of a view, nothing is left out but the `_` between the two
+starts-none : (p : ℕ → Bool) (t : List ℕ) → StartsWithNo p t → takeWhile p t ≡ []
+unfolding StartsWithNo takeWhile
+starts-none p [] h = refl
+starts-none p (b ∷ t) h = rw h
+
+view-head : (t : List ℕ) (n : ℕ) → IsView t → undsFront (headOf t n) ≡ []
+unfolding undsFront
+view-head t n v =
+    starts-none isUnd (headOf t n) (prefix-starts isUnd (headOf t n) (tailOf t n) (subst (StartsWithNo isUnd) (sym (parts-whole t n)) (v .front)))
+
+view-tail : (t : List ℕ) (n : ℕ) → IsView t → undsBack (tailOf t n) ≡ []
+unfolding undsBack takeBack
+view-tail t n v =
+    let u = dropWhile isUnd (tailOf t n) in
+    let w : (headOf t n ++ takeWhile isUnd (tailOf t n)) ++ u ≡ t =
+    append-assoc (headOf t n) (takeWhile isUnd (tailOf t n)) u ∙ ap (λ (l : List ℕ). headOf t n ++ l) (while-whole isUnd (tailOf t n)) ∙ parts-whole t n in
+    let r : reverse t ≡ reverse u ++ reverse (headOf t n ++ takeWhile isUnd (tailOf t n)) =
+    ap reverse (sym w) ∙ reverse-append (headOf t n ++ takeWhile isUnd (tailOf t n)) u in
+    ap reverse
+    (starts-none isUnd (reverse u)
+    (prefix-starts isUnd (reverse u) (reverse (headOf t n ++ takeWhile isUnd (tailOf t n))) (subst (StartsWithNo isUnd) r (v .back))))
+
+pub split-view : (t : List ℕ) (n : ℕ) → IsView t → uptoOf t n ++ ((undsBack (headOf t n) ++ undsFront (tailOf t n)) ++ fromOf t n) ≡ t
+split-view t n v =
+    let a = uptoOf t n in
+    let b = undsBack (headOf t n) in
+    let c = undsFront (tailOf t n) in
+    let d = fromOf t n in
+    let w : (undsFront (headOf t n) ++ (a ++ b)) ++ (c ++ (d ++ undsBack (tailOf t n))) ≡ t = split-whole t n in
+    let x : (a ++ b) ++ (c ++ (d ++ [])) ≡ t =
+    rw (view-head t n v, view-tail t n v) at w in
+    ap (λ (l : List ℕ). a ++ l) (append-assoc b c d) ∙ sym (append-assoc a b (c ++ d)) ∙ ap (λ (l : List ℕ). (a ++ b) ++ (c ++ l)) (sym (append-nil d)) ∙ x
+
 -- ---- lists
 at-front : (d : List ℕ) {b : ℕ} → firstOf d ≡ Is b → b ∷ drop 1 d ≡ d
 unfolding firstOf

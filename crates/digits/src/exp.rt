@@ -9,7 +9,7 @@ ghost use lib.Dec.{eqb};
 ghost use lib.IntN.{natAbs};
 ghost use Rattle.digits.specs.Meaning.{isZero, digitsOf, dropWhile, dropBack};
 ghost use Rattle.digits.specs.Second.{part, zeros, spanOf, emptySpan, emptyExp, IsSpan, Stands, StandsPair, IsExp, StandsExp, Moved, rightInt, rightFrac, leftInt, leftFrac, digitsExpOf, cutOf};
-ghost use Rattle.digits.specs.Promise.{NewIntFrac, LenExp, SplitAt, SplitFirst};
+ghost use Rattle.digits.specs.Promise.{ViewOf, NewIntFrac, LenExp, SplitAt, SplitFirst};
 use super::count;
 use super::part;
 
@@ -65,9 +65,9 @@ fn trim(text: &[u8], from: usize, to: usize) -> Span
     }
 }
 
-// The view at a span.
-fn view_of(text: &[u8], s: Span) -> &[u8]
-    ensures { λ r. ⌜ now r ≡ part (now (text .entry)) (s .from) (s .to) ⌝ }
+// The view at a span, as the part of the text that it is.
+pub fn view_of(text: &[u8], s: Span) -> &[u8]
+    ensures { λ r. ⌜ ViewOf (now (text .entry)) s (now r) ⌝ }
 {
     let from = s.from;
     let to = s.to;
