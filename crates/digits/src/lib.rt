@@ -3,7 +3,10 @@ ghost use Rattle.digits.specs.Promise.{New, Len, Upto, From, First, Afte
 
 mod count;
 pub mod exp;
+mod moving;
 mod part;
+mod span;
+mod splitting;
 
 // The digit at an end of a view, if there is one.
 pub enum Digit {
