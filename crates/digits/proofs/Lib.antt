@@ -5,3 +5,4 @@ pub mod Moves
 pub mod Places
 pub mod Spans
 pub mod Steps
+pub mod Turns

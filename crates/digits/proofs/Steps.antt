@@ -7,7 +7,8 @@ use lib.ListN.{length, take, drop, getD, drop-of-length-le}
 use Rattle.digits.specs.declared.Digit.{Digit}
 use Rattle.digits.specs.declared.Digit.the-variants.{Is, Nothing}
 use Rattle.digits.specs.Meaning.{isUnd, digitsOf, takeWhile, dropBack, trimmed, headOf, uptoOf, fromOf, firstOf, lastOf}
-use Rattle.digits.specs.Runs.{turn, turn-back, start-back, drop-while, take-back, back-length, take-head, drop-head}
+use Rattle.digits.proofs.Turns.{turn, turn-back, start-back}
+use Rattle.digits.specs.Runs.{drop-while, take-back, back-length, take-head, drop-head}
 use Rattle.digits.specs.Theorems.{view-first, view-last}
 
 -- the byte at an end

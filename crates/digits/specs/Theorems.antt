@@ -1,5 +1,5 @@
 -- What is proved of the meaning of a view: it stands for the digits of its run, what is dropped and the view make up the run, the parts of a split
--- make up the digits, and every part is a view again. Assumes nothing.
+-- make up the digits, and every part is a view again. Last, of the second layer: an exponent moves the point and nothing else. Assumes nothing.
 use mathlib.Core.Path.{_≡_, refl, sym, ap, subst, _∙_}
 use mathlib.Core.Bool.{Bool, true, false, cond}
 use mathlib.Core.List.{List, [], _∷_, _++_, reverse, reverse-cons, reverse-append, reverse-reverse, append-assoc, append-nil}
