@@ -5,3 +5,4 @@ pub mod Runs
 pub mod Second
 pub mod Theorems
 pub mod Zeros
+pub mod Value
