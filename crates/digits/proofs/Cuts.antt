@@ -10,7 +10,8 @@ use lib.Seq.{take-nil, drop-nil, take-all}
 use Rattle.digits.specs.declared.exp.Span.{Span}
 use Rattle.digits.specs.declared.exp.DigitsExp.{DigitsExp}
 use Rattle.digits.specs.declared.exp.Counts.{Counts}
-use Rattle.digits.specs.Second.{cutOf, zeros, spanOf, Stands, IsExp, StandsExp, digitsExpOf}
+use Rattle.digits.specs.Second.{zeros, spanOf, Stands, IsExp, StandsExp, digitsExpOf}
+use Rattle.digits.specs.Inner.{cutOf}
 use Rattle.digits.specs.Zeros.{zeros-length, take-zeros, drop-zeros}
 
 -- ---- the first digits of two lists, one after the other

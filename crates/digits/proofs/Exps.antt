@@ -9,7 +9,8 @@ use lib.Dec.{eqb}
 use Rattle.digits.specs.declared.exp.Span.{Span}
 use Rattle.digits.specs.declared.exp.Pair.{Pair}
 use Rattle.digits.specs.Meaning.{isZero, dropWhile, dropBack}
-use Rattle.digits.specs.Second.{zeros, spanOf, emptySpan, IsSpan, Stands, StandsPair, StandsExp, digitsExpOf}
+use Rattle.digits.specs.Second.{zeros, spanOf, IsSpan, Stands, StandsExp, digitsExpOf}
+use Rattle.digits.specs.Inner.{emptySpan, StandsPair}
 use Rattle.digits.specs.Zeros.{no-length, while-append-none, while-append-some, back-append-none, back-append-some, only-if, int-zeros, frac-zeros}
 use Rattle.digits.proofs.Spans.{empty-stands}
 

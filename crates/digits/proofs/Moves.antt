@@ -19,7 +19,8 @@ use Rattle.digits.specs.declared.exp.DigitsExp.{DigitsExp}
 use Rattle.digits.specs.declared.exp.IntFrac.{IntFrac}
 use Rattle.digits.specs.Meaning.{isZero, dropWhile, dropBack}
 use Rattle.digits.specs.Zeros.{zeros-length, take-zeros, drop-zeros, while-append-none, back-append-none, zeros-while, zeros-back}
-use Rattle.digits.specs.Second.{zeros, spanOf, emptySpan, emptyExp, IsSpan, Stands, StandsExp, digitsExpOf, rightInt, rightFrac, leftInt, leftFrac, movedInt, movedFrac, StandsDropped, Moved}
+use Rattle.digits.specs.Second.{zeros, spanOf, IsSpan, Stands, StandsExp, digitsExpOf, rightInt, rightFrac, leftInt, leftFrac, movedInt, movedFrac, StandsDropped}
+use Rattle.digits.specs.Inner.{emptySpan, emptyExp, Moved}
 use Rattle.digits.proofs.Spans.{empty-stands}
 
 -- ---- to the right

@@ -10,7 +10,8 @@ use Rattle.digits.specs.declared.exp.Span.{Span}
 use Rattle.digits.specs.Meaning.{isUnd, isZero, digitsOf, takeWhile, dropWhile, dropBack, trimmed, undsFront, undsBack, StartsWithNo, IsView, headOf, tailOf, leadingZeros, trailingZeros}
 use Rattle.digits.specs.Runs.{while-length, take-head, drop-head, head-length}
 use Rattle.digits.specs.Theorems.{trimmed-whole, trimmed-view, trimmed-digits, head-digits, tail-digits, leading-within, trailing-within, leading-left, trailing-left}
-use Rattle.digits.specs.Second.{part, spanOf, emptySpan, IsSpan, Stands}
+use Rattle.digits.specs.Second.{part, spanOf, IsSpan, Stands}
+use Rattle.digits.specs.Inner.{emptySpan}
 
 -- ---- a part of the text
 pub part-none : (t : List ℕ) (a e : ℕ) {r : List ℕ} → e ≤ a → r ≡ take 0 t → r ≡ part t a e
