@@ -1,6 +1,9 @@
 pub mod Cases
+pub mod Inner
 pub mod Meaning
 pub mod Promise
 pub mod Runs
-pub mod Steps
+pub mod Second
 pub mod Theorems
+pub mod Value
+pub mod Zeros

@@ -1,4 +1,4 @@
--- What a digit view is: document 01, module 1. A run is the list of the bytes between two places of the text.
+-- What a digit view is: document 01, module 1. A run is the list of the bytes between two places of the text. (The second layer is in Second.antt.)
 -- Assumes nothing.
 use mathlib.Core.Path.{_≡_}
 use mathlib.Core.Bool.{Bool, false, cond}
@@ -22,7 +22,7 @@ unfoldable pub digitsOf : List ℕ → List ℕ
 digitsOf [] = []
 digitsOf (b ∷ t) = cond (isUnd b) (digitsOf t) (b ∷ digitsOf t)
 
--- the bytes in front of which a rule holds, and what is left without them
+-- the bytes in front that a rule holds of, and what is left without them
 unfoldable pub takeWhile : (ℕ → Bool) → List ℕ → List ℕ
 takeWhile p [] = []
 takeWhile p (b ∷ t) = cond (p b) (b ∷ takeWhile p t) []
@@ -49,7 +49,7 @@ undsFront t = takeWhile isUnd t
 unfoldable pub undsBack : List ℕ → List ℕ
 undsBack t = takeBack isUnd (dropWhile isUnd t)
 
--- a run with no `_` at either end
+-- a list does not start with what a rule holds of; a view has no `_` at either end
 unfoldable pub StartsWithNo : (ℕ → Bool) → List ℕ → Type 0
 StartsWithNo p [] = Unit {0}
 StartsWithNo p (b ∷ t) = p b ≡ false

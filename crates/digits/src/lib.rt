@@ -2,7 +2,11 @@
 ghost use Rattle.digits.specs.Promise.{New, Len, Upto, From, First, AfterFirst, Last, BeforeLast, LeadingZeros, WithoutLeadingZeros, TrailingZeros, WithoutTrailingZeros};
 
 mod count;
+pub mod exp;
+mod moving;
 mod part;
+mod span;
+mod splitting;
 
 // The digit at an end of a view, if there is one.
 pub enum Digit {

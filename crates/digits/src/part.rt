@@ -1,8 +1,8 @@
 // Parts of a run, total: past its end there is nothing.
 ghost use mathlib.Core.Path.{_≡_};
-ghost use mathlib.Core.List.{reverse};
 ghost use lib.ListN.{take, drop};
 ghost use Rattle.digits.specs.Meaning.{firstOf, lastOf};
+ghost use Rattle.digits.specs.Second.{part};
 use super::Digit;
 
 // The first n bytes.
@@ -43,4 +43,14 @@ pub fn last_byte(run: &[u8]) -> Digit
         return Digit::Is(run[run.len() - 1]);
     }
     Digit::Nothing
+}
+
+// The bytes from `from` up to `to`.
+pub fn between(run: &[u8], from: usize, to: usize) -> &[u8]
+    ensures { λ r. ⌜ now r ≡ part (now (run .entry)) from to ⌝ }
+{
+    if to <= from {
+        return head(run, 0);
+    }
+    head(rest(run, from), to - from)
 }

@@ -1,6 +1,6 @@
 -- `digits::first` meets its promise. The view starts with its first digit.
 -- Assumes nothing.
-use Rattle.digits.specs.Steps.{first-is}
+use Rattle.digits.proofs.Steps.{first-is}
 use borrow.Author.Needs.{needs}
 use Rattle.digits.proofs.first.Statement.{statement}
 use Rattle.digits.proofs.first.Tie as tie

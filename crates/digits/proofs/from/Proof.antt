@@ -1,6 +1,6 @@
 -- `digits::from` meets its promise. The place of the digit cuts the run where `tailOf` starts.
 -- Assumes nothing.
-use Rattle.digits.specs.Steps.{from-is}
+use Rattle.digits.proofs.Steps.{from-is}
 use borrow.Author.Needs.{needs}
 use Rattle.digits.proofs.from.Statement.{statement}
 use Rattle.digits.proofs.from.Tie as tie

@@ -1,6 +1,6 @@
 -- `digits::last` meets its promise. The view ends with its last digit.
 -- Assumes nothing.
-use Rattle.digits.specs.Steps.{last-is}
+use Rattle.digits.proofs.Steps.{last-is}
 use borrow.Author.Needs.{needs}
 use Rattle.digits.proofs.last.Statement.{statement}
 use Rattle.digits.proofs.last.Tie as tie

@@ -6,7 +6,7 @@ use mathlib.Core.Logic.{⊎-elim}
 use native.Mathlib.Omega.{arith}
 use lib.ListN.{length, drop}
 use Rattle.digits.specs.Meaning.{isZero, digitsOf, takeWhile, leadingZeros}
-use Rattle.digits.specs.Runs.{turn, end-front, zeros-skip, zeros-more, zeros-stop, zeros-end}
+use Rattle.digits.proofs.Turns.{turn, end-front, zeros-skip, zeros-more, zeros-stop, zeros-end}
 use Rattle.digits.proofs.leading_zeros.Statement.{statement}
 use Rattle.digits.proofs.leading_zeros.Tie as tie
 

@@ -6,7 +6,7 @@ use mathlib.Core.Logic.{⊎-elim}
 use native.Mathlib.Omega.{arith}
 use lib.ListN.{length, drop}
 use Rattle.digits.specs.Meaning.{digitsOf}
-use Rattle.digits.specs.Runs.{turn, end-front, digits-skip, digits-more, digits-end}
+use Rattle.digits.proofs.Turns.{turn, end-front, digits-skip, digits-more, digits-end}
 use Rattle.digits.proofs.len.Statement.{statement}
 use Rattle.digits.proofs.len.Tie as tie
 

@@ -1,6 +1,6 @@
 -- `digits::new` meets its promise. What the two counts cut off is what `trimmed` drops.
 -- Assumes nothing.
-use Rattle.digits.specs.Steps.{trim-within, trim-is}
+use Rattle.digits.proofs.Steps.{trim-within, trim-is}
 use borrow.Author.Needs.{needs}
 use Rattle.digits.proofs.new.Statement.{statement}
 use Rattle.digits.proofs.new.Tie as tie

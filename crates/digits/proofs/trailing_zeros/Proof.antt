@@ -7,7 +7,8 @@ use mathlib.Core.Logic.{⊎-elim}
 use native.Mathlib.Omega.{arith}
 use lib.ListN.{length, take}
 use Rattle.digits.specs.Meaning.{isZero, digitsOf, takeWhile, trailingZeros}
-use Rattle.digits.specs.Runs.{turn-back, end-back, start-back, zeros-skip, zeros-more, zeros-stop, zeros-end, digits-reverse}
+use Rattle.digits.proofs.Turns.{turn-back, end-back, start-back, zeros-skip, zeros-more, zeros-stop, zeros-end}
+use Rattle.digits.specs.Runs.{digits-reverse}
 use Rattle.digits.proofs.trailing_zeros.Statement.{statement}
 use Rattle.digits.proofs.trailing_zeros.Tie as tie
 

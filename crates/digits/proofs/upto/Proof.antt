@@ -1,6 +1,6 @@
 -- `digits::upto` meets its promise. The place of the digit cuts the run where `headOf` ends.
 -- Assumes nothing.
-use Rattle.digits.specs.Steps.{upto-is}
+use Rattle.digits.proofs.Steps.{upto-is}
 use borrow.Author.Needs.{needs}
 use Rattle.digits.proofs.upto.Statement.{statement}
 use Rattle.digits.proofs.upto.Tie as tie

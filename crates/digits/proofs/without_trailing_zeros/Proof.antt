@@ -3,7 +3,7 @@
 use native.Mathlib.Omega.{arith}
 use mathlib.Core.Path.{ap, _∙_}
 use Rattle.digits.specs.Meaning.{digitsOf, uptoOf}
-use Rattle.digits.specs.Steps.{trailing-within}
+use Rattle.digits.specs.Theorems.{trailing-within}
 use borrow.Author.Needs.{needs}
 use Rattle.digits.proofs.without_trailing_zeros.Statement.{statement}
 use Rattle.digits.proofs.without_trailing_zeros.Tie as tie

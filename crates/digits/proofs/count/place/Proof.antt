@@ -6,7 +6,7 @@ use mathlib.Core.Logic.{⊎-elim}
 use native.Mathlib.Omega.{arith}
 use lib.ListN.{length, drop}
 use Rattle.digits.specs.Meaning.{headOf}
-use Rattle.digits.specs.Runs.{turn, end-front, head-stop, head-skip, head-more, head-end}
+use Rattle.digits.proofs.Turns.{turn, end-front, head-stop, head-skip, head-more, head-end}
 use Rattle.digits.proofs.count.place.Statement.{statement}
 use Rattle.digits.proofs.count.place.Tie as tie
 

@@ -6,7 +6,7 @@ use mathlib.Core.List.{reverse}
 use native.Mathlib.Omega.{arith}
 use lib.ListN.{length, take}
 use Rattle.digits.specs.Meaning.{isUnd, takeWhile}
-use Rattle.digits.specs.Runs.{turn-back, end-back, start-back, und-yes, und-no, while-more, while-stop, while-end}
+use Rattle.digits.proofs.Turns.{turn-back, end-back, start-back, und-yes, und-no, while-more, while-stop, while-end}
 use Rattle.digits.proofs.count.unds_behind.Statement.{statement}
 use Rattle.digits.proofs.count.unds_behind.Tie as tie
 

@@ -5,7 +5,7 @@ use mathlib.Core.Path.{_≡_}
 use native.Mathlib.Omega.{arith}
 use lib.ListN.{length, drop}
 use Rattle.digits.specs.Meaning.{isUnd, takeWhile}
-use Rattle.digits.specs.Runs.{turn, end-front, und-yes, und-no, while-more, while-stop, while-end}
+use Rattle.digits.proofs.Turns.{turn, end-front, und-yes, und-no, while-more, while-stop, while-end}
 use Rattle.digits.proofs.count.unds_front.Statement.{statement}
 use Rattle.digits.proofs.count.unds_front.Tie as tie
 

@@ -1,7 +1,7 @@
 -- `digits::part::first_byte` meets its contract, by whether there is a byte.
 -- Assumes nothing.
 use native.Mathlib.Omega.{arith}
-use Rattle.digits.specs.Steps.{first-some, first-none}
+use Rattle.digits.proofs.Steps.{first-some, first-none}
 use borrow.Author.Needs.{needs}
 use Rattle.digits.proofs.part.first_byte.Statement.{statement}
 use Rattle.digits.proofs.part.first_byte.Tie as tie

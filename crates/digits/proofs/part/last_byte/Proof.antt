@@ -1,7 +1,7 @@
 -- `digits::part::last_byte` meets its contract, by whether there is a byte.
 -- Assumes nothing.
 use native.Mathlib.Omega.{arith}
-use Rattle.digits.specs.Steps.{last-some, last-none}
+use Rattle.digits.proofs.Steps.{last-some, last-none}
 use borrow.Author.Needs.{needs}
 use Rattle.digits.proofs.part.last_byte.Statement.{statement}
 use Rattle.digits.proofs.part.last_byte.Tie as tie

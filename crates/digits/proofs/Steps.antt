@@ -6,8 +6,9 @@ use native.Mathlib.Omega.{arith}
 use lib.ListN.{length, take, drop, getD, drop-of-length-le}
 use Rattle.digits.specs.declared.Digit.{Digit}
 use Rattle.digits.specs.declared.Digit.the-variants.{Is, Nothing}
-use Rattle.digits.specs.Meaning.{isUnd, isZero, digitsOf, takeWhile, dropBack, trimmed, headOf, uptoOf, fromOf, firstOf, lastOf, leadingZeros, trailingZeros}
-use Rattle.digits.specs.Runs.{turn, turn-back, start-back, drop-while, take-back, back-length, while-length, take-head, drop-head}
+use Rattle.digits.specs.Meaning.{isUnd, digitsOf, takeWhile, dropBack, trimmed, headOf, uptoOf, fromOf, firstOf, lastOf}
+use Rattle.digits.proofs.Turns.{turn, turn-back, start-back}
+use Rattle.digits.specs.Runs.{drop-while, take-back, back-length, take-head, drop-head}
 use Rattle.digits.specs.Theorems.{view-first, view-last}
 
 -- the byte at an end
@@ -54,12 +55,3 @@ first-is t e q = q ∙ ap firstOf e ∙ view-first t
 
 pub last-is : (t : List ℕ) {v : List ℕ} {r : Digit} → v ≡ trimmed t → r ≡ lastOf v → r ≡ lastOf (digitsOf t)
 last-is t e q = q ∙ ap lastOf e ∙ view-last t
-
--- there are no more zeros than digits
-pub trailing-within : (d : List ℕ) → trailingZeros d ≤ length d
-unfolding trailingZeros
-trailing-within d = omega (arith, back-length isZero d)
-
-pub leading-within : (d : List ℕ) → leadingZeros d ≤ length d
-unfolding leadingZeros
-leading-within d = omega (arith, while-length isZero d)
