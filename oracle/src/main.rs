@@ -1,0 +1,102 @@
+//! Compares S, an exact model and the port on texts. `oracle/run` builds and starts this.
+
+mod classes;
+mod compare;
+mod format;
+mod grammar;
+mod model;
+mod natural;
+mod port;
+mod random;
+mod runs;
+mod scan;
+mod texts;
+
+use classes::Class;
+use compare::Tally;
+use runs::{Effort, RUNS};
+use std::process::exit;
+use std::time::Instant;
+
+/// The page whose table is put to the test.
+const GRAMMAR: &str = include_str!("../../docs/GRAMMAR.md");
+
+fn main() {
+    // a panic of S is an answer like another: it is counted where it differs, not printed
+    std::panic::set_hook(Box::new(|_| {}));
+    let (effort, names) = arguments();
+    let all = names.iter().any(|name| name == "all");
+    let mut total = Tally::default();
+    measured("classes", &mut total, Tally::witnesses);
+    if all || names.iter().any(|name| name == "grammar") {
+        measured("grammar", &mut total, |tally| grammar::check(GRAMMAR, tally));
+    }
+    for (name, run) in RUNS {
+        if all || names.iter().any(|wanted| wanted == name) {
+            measured(name, &mut total, |tally| run(tally, &effort));
+        }
+    }
+    report(&mut total, all);
+    println!("{} passed, {} failed", total.compared - total.failed, total.failed);
+    exit(i32::from(total.failed > 0));
+}
+
+fn arguments() -> (Effort, Vec<String>) {
+    let mut effort = Effort { times: 1, seed: 1 };
+    let mut names = Vec::new();
+    let mut arguments = std::env::args().skip(1);
+    while let Some(argument) = arguments.next() {
+        match argument.as_str() {
+            "--effort" => effort.times = number(arguments.next()),
+            "--seed" => effort.seed = number(arguments.next()),
+            name if name == "all" || name == "grammar" || RUNS.iter().any(|(known, _)| *known == name) => {
+                names.push(argument);
+            }
+            other => usage(&format!("no run is called {other}")),
+        }
+    }
+    if names.is_empty() {
+        usage("name a run");
+    }
+    (effort, names)
+}
+
+fn number(argument: Option<String>) -> u64 {
+    argument.and_then(|argument| argument.parse().ok()).unwrap_or_else(|| usage("a number is wanting"))
+}
+
+fn usage(fault: &str) -> ! {
+    let names: Vec<&str> = RUNS.iter().map(|(name, _)| *name).collect();
+    eprintln!("{fault}\nruns: all grammar {}\noptions: --effort N, --seed N", names.join(" "));
+    exit(2)
+}
+
+fn measured(name: &str, total: &mut Tally, run: impl FnOnce(&mut Tally)) {
+    let (start, texts, compared, failed) = (Instant::now(), total.texts, total.compared, total.failed);
+    run(total);
+    println!(
+        "{name}: {} texts, {} answers compared, {} failed, {:.1} s",
+        total.texts - texts,
+        total.compared - compared,
+        total.failed - failed,
+        start.elapsed().as_secs_f64()
+    );
+}
+
+/// The classes met. After all runs, each must have been met: one that no longer occurs should leave the list.
+fn report(total: &mut Tally, all: bool) {
+    for class in Class::ALL {
+        let count = total.in_class[class as usize];
+        match &total.smallest[class as usize] {
+            Some((text, reader, format)) => {
+                let text = String::from_utf8_lossy(text);
+                println!("class {class:?}: {count} differences, the shortest text `{text}` {reader:?} {format:?}");
+            }
+            None if all => {
+                println!("class {class:?} no longer occurs");
+                total.failed += 1;
+            }
+            None => {}
+        }
+    }
+}
