@@ -20,9 +20,11 @@ pub struct Occasion<'a> {
 pub enum Class {
     CutTie,
     QuarterAndMore,
-    HexWhole,
     NoWholeBits,
+    HexLetter,
+    HexShift,
     FalseHalf,
+    MissedHalf,
     FirstDigit,
 }
 
@@ -36,12 +38,14 @@ pub struct Witness {
 }
 
 impl Class {
-    pub const ALL: [Class; 6] = [
+    pub const ALL: [Class; 8] = [
         Class::CutTie,
         Class::QuarterAndMore,
-        Class::HexWhole,
         Class::NoWholeBits,
+        Class::HexLetter,
+        Class::HexShift,
         Class::FalseHalf,
+        Class::MissedHalf,
         Class::FirstDigit,
     ];
 
@@ -55,11 +59,13 @@ impl Class {
         match self {
             Class::CutTie => cut_tie(moved, format),
             Class::QuarterAndMore => moved.radix == 10 && format.frac == 1 && moved.fraction_is(&[2, 5, 1]),
-            Class::HexWhole => hex_whole(moved),
             Class::NoWholeBits => format.frac == format.width && moved.bits != 0 && moved.no_whole,
+            Class::HexLetter => whole_from_fraction(moved) && moved.first_digit() > 9,
+            Class::HexShift => whole_from_fraction(moved) && moved.first_digit() >> (3 - moved.bits) != 0,
             Class::FalseHalf => {
                 format.frac == 0 && moved.bits == 1 && moved.fraction_is(&[(moved.radix / 2) as u8])
             }
+            Class::MissedHalf => format.frac == 0 && moved.bits != 0 && half_above_odd(moved),
             Class::FirstDigit => {
                 !moved.fraction.is_empty() && moved.bits != 0 && format.frac < moved.digit_bits - moved.bits
             }
@@ -73,9 +79,11 @@ impl Class {
         let (text, reader, format, of_s, right): (&'static [u8], _, _, _, _) = match self {
             Class::CutTie => (b".0937", plain(10), unsigned(8, 4), done(2), done(1)),
             Class::QuarterAndMore => (b".251", plain(10), unsigned(8, 1), done(0), done(1)),
-            Class::HexWhole => (b".8p1", plain(16), unsigned(8, 4), done(32), done(16)),
             Class::NoWholeBits => (b"0p1", plain(8), unsigned(8, 8), Answer::refused(10), done(0)),
+            Class::HexLetter => (b"ap-1", plain(16), unsigned(8, 1), done(98), done(10)),
+            Class::HexShift => (b"1p-1", plain(16), unsigned(8, 1), done(3), done(1)),
             Class::FalseHalf => (b".4p1", plain(8), unsigned(8, 0), done(2), done(1)),
+            Class::MissedHalf => (b".6p1", plain(8), unsigned(8, 0), done(1), done(2)),
             Class::FirstDigit => (b".3p1", plain(8), unsigned(8, 0), done(0), done(1)),
         };
         Witness { text, reader, format, of_s, right }
@@ -126,10 +134,16 @@ impl Moved<'_> {
     }
 }
 
-/// S takes the whole part's low bits as `digit >> (3 - bits)` where `digit >> (4 - bits)` is meant; and a letter's
-/// byte less `0` is no digit's value. Both show as soon as the first is not zero.
-fn hex_whole(moved: &Moved) -> bool {
-    moved.radix == 16 && moved.bits != 0 && moved.no_whole && moved.first_digit() >> (3 - moved.bits) != 0
+/// In radix 16, with nothing before the point, S takes the whole part, which is `digit >> (4 - bits)`, from the first
+/// digit's byte less `0`, shifted by 3 - bits: wrong for a letter, and for a digit as soon as that is not zero.
+fn whole_from_fraction(moved: &Moved) -> bool {
+    moved.radix == 16 && moved.bits != 0 && moved.no_whole
+}
+
+/// The fraction's only digit gives an odd bit to the whole part and leaves exactly one half.
+fn half_above_odd(moved: &Moved) -> bool {
+    let left = moved.digit_bits - moved.bits;
+    moved.zeros == 0 && moved.fraction.len() == 1 && moved.first_digit() & ((2 << left) - 1) == 3 << (left - 1)
 }
 
 /// Decimal digits that S takes in one group, by the bits of the fraction.
