@@ -3,12 +3,11 @@
 //! A predicate speaks of the text and the format only, never of what S answered, so that a difference is
 //! explained by its cause. A difference outside every class is a failure.
 
-use crate::format::{Answer, Format, Reader, STRICT};
+use crate::format::{Format, Reader};
 use crate::natural::Natural;
 use crate::scan::Written;
 
 /// One question, and what its text says if it is a number.
-#[derive(Clone, Copy)]
 pub struct Occasion<'a> {
     pub text: &'a [u8],
     pub reader: Reader,
@@ -26,15 +25,6 @@ pub enum Class {
     FalseHalf,
     MissedHalf,
     FirstDigit,
-}
-
-/// A smallest text of a class, with both answers.
-pub struct Witness {
-    pub text: &'static [u8],
-    pub reader: Reader,
-    pub format: Format,
-    pub of_s: Answer,
-    pub right: Answer,
 }
 
 impl Class {
@@ -70,23 +60,6 @@ impl Class {
                 !moved.fraction.is_empty() && moved.bits != 0 && format.frac < moved.digit_bits - moved.bits
             }
         }
-    }
-
-    pub fn witness(self) -> Witness {
-        let plain = |radix| Reader::Plain { radix, manner: STRICT };
-        let unsigned = |width, frac| Format { signed: false, width, frac };
-        let done = |value| Answer::done(value, false);
-        let (text, reader, format, of_s, right): (&'static [u8], _, _, _, _) = match self {
-            Class::CutTie => (b".0937", plain(10), unsigned(8, 4), done(2), done(1)),
-            Class::QuarterAndMore => (b".251", plain(10), unsigned(8, 1), done(0), done(1)),
-            Class::NoWholeBits => (b"0p1", plain(8), unsigned(8, 8), Answer::refused(10), done(0)),
-            Class::HexLetter => (b"ap-1", plain(16), unsigned(8, 1), done(98), done(10)),
-            Class::HexShift => (b"1p-1", plain(16), unsigned(8, 1), done(3), done(1)),
-            Class::FalseHalf => (b".4p1", plain(8), unsigned(8, 0), done(2), done(1)),
-            Class::MissedHalf => (b".6p1", plain(8), unsigned(8, 0), done(1), done(2)),
-            Class::FirstDigit => (b".3p1", plain(8), unsigned(8, 0), done(0), done(1)),
-        };
-        Witness { text, reader, format, of_s, right }
     }
 }
 

@@ -3,6 +3,7 @@
 use crate::classes::{Class, Occasion};
 use crate::format::{Answer, Format, Reader, MANNERS};
 use crate::model::{self, Exact};
+use crate::pages::{self, Stated};
 use crate::port;
 use crate::scan::scan;
 use std::panic::catch_unwind;
@@ -80,14 +81,37 @@ impl Tally {
         }
     }
 
-    /// A question whose answer stands in a document: the model must give it too.
-    pub fn stated(&mut self, text: &[u8], reader: Reader, format: Format, stated: Answer) {
+    /// Questions whose answers stand on a page: the model, S and the port must give them.
+    pub fn telling_texts(&mut self) {
+        for stated in pages::telling_texts() {
+            self.stated(&stated, |tally, occasion, right| tally.compare(occasion, right));
+        }
+    }
+
+    /// The smallest text of each class: it belongs there, and S still gives what the page says that it gives.
+    pub fn witnesses(&mut self) {
+        let witnesses = pages::witnesses();
+        for witness in &witnesses {
+            self.stated(&witness.right, |tally, occasion, right| {
+                tally.judge("S", occasion, answer_of_s(occasion.text, occasion.reader, occasion.format), witness.of_s);
+                tally.judge_port(occasion, right);
+                tally.expect(Class::of(occasion) == Some(witness.class), &format!("a witness is not in {:?}", witness.class));
+            });
+        }
+        for class in Class::ALL {
+            self.expect(witnesses.iter().any(|witness| witness.class == class), &format!("no page tells of {class:?}"));
+        }
+    }
+
+    /// The model gives what the page states; then the others are asked.
+    fn stated(&mut self, stated: &Stated, others: impl FnOnce(&mut Tally, &Occasion, Answer)) {
         self.texts += 1;
+        let Stated { text, reader, format, answer } = *stated;
         let scanned = scan(text, reader, format.signed);
         let occasion = Occasion { text, reader, format, written: scanned.as_ref().ok() };
-        let expected = model::answer(text, reader, format);
-        self.judge("the document", &occasion, Some(stated), expected);
-        self.compare(&occasion, expected);
+        let right = model::answer(text, reader, format);
+        self.judge("the page", &occasion, Some(answer), right);
+        others(self, &occasion, right);
     }
 
     /// A question that S has no answer to: the port against the model alone.
@@ -96,26 +120,6 @@ impl Tally {
         if let Some(found) = port::answer(text, reader, format) {
             self.texts += 1;
             self.judge("the port", &occasion, Some(found), model::answer(text, reader, format));
-        }
-    }
-
-    /// The witness of each class: S still gives what docs/DIFFERENCES.md says it gives, and the model what is right.
-    pub fn witnesses(&mut self) {
-        for class in Class::ALL {
-            let witness = class.witness();
-            let scanned = scan(witness.text, witness.reader, witness.format.signed);
-            let written = scanned.as_ref().ok();
-            let occasion = Occasion { text: witness.text, reader: witness.reader, format: witness.format, written };
-            self.texts += 1;
-            self.judge("S", &occasion, answer_of_s(witness.text, witness.reader, witness.format), witness.of_s);
-            let right = model::answer(witness.text, witness.reader, witness.format);
-            self.judge("the document", &occasion, Some(witness.right), right);
-            self.judge_port(&occasion, right);
-            self.compared += 1;
-            if Class::of(&occasion) != Some(class) {
-                self.failed += 1;
-                println!("the witness of {class:?} is not in its class");
-            }
         }
     }
 
@@ -140,9 +144,10 @@ impl Tally {
 
     fn compare(&mut self, occasion: &Occasion, expected: Answer) {
         let found = answer_of_s(occasion.text, occasion.reader, occasion.format);
-        match Class::of(occasion) {
-            Some(class) if found != Some(expected) => self.explained(class, occasion),
-            _ => self.judge("S", occasion, found, expected),
+        let class = if found == Some(expected) { None } else { Class::of(occasion) };
+        match class {
+            Some(class) => self.explained(class, occasion),
+            None => self.judge("S", occasion, found, expected),
         }
         self.judge_port(occasion, expected);
     }
@@ -163,6 +168,13 @@ impl Tally {
         }
     }
 
+    fn expect(&mut self, holds: bool, otherwise: &str) {
+        self.compared += 1;
+        if !holds {
+            self.fail(otherwise);
+        }
+    }
+
     fn explained(&mut self, class: Class, occasion: &Occasion) {
         self.compared += 1;
         self.in_class[class as usize] += 1;
@@ -175,7 +187,7 @@ impl Tally {
     fn fail(&mut self, what: &str) {
         self.failed += 1;
         if self.failed <= SHOWN {
-            println!("differs: {what}");
+            println!("failed: {what}");
         }
     }
 }

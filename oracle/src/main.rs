@@ -1,14 +1,16 @@
 //! Compares S, an exact model and the port on texts. `oracle/run` builds and starts this.
 
+mod bench;
 mod classes;
 mod compare;
 mod format;
-mod grammar;
 mod model;
 mod natural;
+mod pages;
 mod port;
 mod random;
 mod runs;
+mod sample;
 mod scan;
 mod texts;
 
@@ -18,27 +20,38 @@ use runs::{Effort, RUNS};
 use std::process::exit;
 use std::time::Instant;
 
-/// The page whose table is put to the test.
-const GRAMMAR: &str = include_str!("../../docs/GRAMMAR.md");
-
 fn main() {
+    let (effort, names) = arguments();
+    match names.iter().map(String::as_str).collect::<Vec<_>>()[..] {
+        ["bench"] => bench::bench(effort.seed),
+        ["sample", "text"] => sample::text_sample(effort.seed),
+        ["sample", "log10"] => sample::log10_sample(effort.seed),
+        _ => exit(compare_all(&effort, &names)),
+    }
+}
+
+/// Makes the runs named, and answers the exit status.
+fn compare_all(effort: &Effort, names: &[String]) -> i32 {
+    let all = names.iter().any(|name| name == "all");
+    let unknown = names.iter().find(|name| *name != "all" && *name != "pages" && RUNS.iter().all(|(known, _)| known != name));
+    if let Some(unknown) = unknown {
+        usage(&format!("no run is called {unknown}"));
+    }
     // a panic of S is an answer like another: it is counted where it differs, not printed
     std::panic::set_hook(Box::new(|_| {}));
-    let (effort, names) = arguments();
-    let all = names.iter().any(|name| name == "all");
     let mut total = Tally::default();
-    measured("classes", &mut total, Tally::witnesses);
-    if all || names.iter().any(|name| name == "grammar") {
-        measured("grammar", &mut total, |tally| grammar::check(GRAMMAR, tally));
-    }
+    measured("pages", &mut total, |tally| {
+        tally.witnesses();
+        tally.telling_texts();
+    });
     for (name, run) in RUNS {
         if all || names.iter().any(|wanted| wanted == name) {
-            measured(name, &mut total, |tally| run(tally, &effort));
+            measured(name, &mut total, |tally| run(tally, effort));
         }
     }
     report(&mut total, all);
     println!("{} passed, {} failed", total.compared - total.failed, total.failed);
-    exit(i32::from(total.failed > 0));
+    i32::from(total.failed > 0)
 }
 
 fn arguments() -> (Effort, Vec<String>) {
@@ -49,10 +62,7 @@ fn arguments() -> (Effort, Vec<String>) {
         match argument.as_str() {
             "--effort" => effort.times = number(arguments.next()),
             "--seed" => effort.seed = number(arguments.next()),
-            name if name == "all" || name == "grammar" || RUNS.iter().any(|(known, _)| *known == name) => {
-                names.push(argument);
-            }
-            other => usage(&format!("no run is called {other}")),
+            _ => names.push(argument),
         }
     }
     if names.is_empty() {
@@ -67,7 +77,7 @@ fn number(argument: Option<String>) -> u64 {
 
 fn usage(fault: &str) -> ! {
     let names: Vec<&str> = RUNS.iter().map(|(name, _)| *name).collect();
-    eprintln!("{fault}\nruns: all grammar {}\noptions: --effort N, --seed N", names.join(" "));
+    eprintln!("{fault}\nruns: all pages {}\nothers: bench, sample text, sample log10\noptions: --effort N, --seed N", names.join(" "));
     exit(2)
 }
 

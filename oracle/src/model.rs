@@ -133,7 +133,7 @@ pub fn answer(text: &[u8], reader: Reader, format: Format) -> Answer {
 }
 
 /// Refusals 1 to 4, in document 01's order.
-fn refusal(text: &[u8], reader: Reader, format: Format) -> Option<u32> {
+pub fn refusal(text: &[u8], reader: Reader, format: Format) -> Option<u32> {
     let unknown_radix = matches!(reader, Reader::Plain { radix, .. } if !RADIXES.contains(&radix));
     if !WIDTHS.contains(&format.width) {
         Some(1)

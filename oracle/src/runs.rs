@@ -36,12 +36,12 @@ fn telling_formats() -> Vec<Format> {
     pairs.iter().flat_map(|(width, frac)| both_signs(*width, *frac)).collect()
 }
 
-fn both_signs(width: u32, frac: u32) -> [Format; 2] {
+pub fn both_signs(width: u32, frac: u32) -> [Format; 2] {
     [Format { signed: true, width, frac }, Format { signed: false, width, frac }]
 }
 
 /// Every F of every width.
-fn all_pairs() -> Vec<(u32, u32)> {
+pub fn all_pairs() -> Vec<(u32, u32)> {
     WIDTHS.iter().flat_map(|width| (0..=*width).map(|frac| (*width, frac))).collect()
 }
 
@@ -308,16 +308,20 @@ fn log10(tally: &mut Tally, effort: &Effort) {
         raws.extend((0..100 * effort.times).map(|_| random.next() >> random.below(64)));
         for format in both_signs(width, frac) {
             for raw in &raws {
-                let raw = *raw & top;
-                let signed_raw = if format.signed { ((raw << (64 - width)) as i64 >> (64 - width)) as i128 } else { i128::from(raw) };
-                tally.log10(signed_raw, format);
+                tally.log10(signed_raw(*raw, format), format);
             }
         }
     }
 }
 
+/// The raw of the format that these bits are.
+pub fn signed_raw(bits: u64, Format { signed, width, .. }: Format) -> i128 {
+    let left = bits << (64 - width);
+    if signed { i128::from(left as i64 >> (64 - width)) } else { i128::from(left >> (64 - width)) }
+}
+
 /// 10^k x 2^frac, for k of either sign, and its neighbours.
-fn around_powers_of_ten(frac: u32) -> Vec<u64> {
+pub fn around_powers_of_ten(frac: u32) -> Vec<u64> {
     let mut raws = vec![0, 1, u64::MAX, u64::MAX / 2, u64::MAX / 2 + 1];
     let one = 1u128 << frac;
     let mut power = 1u128;
