@@ -1,6 +1,7 @@
 //! Reading speed: S and the port in one process, on the same decimal texts, strict, signed, W = 64, F = 32.
 
-use crate::format::{Format, Reader, STRICT};
+use crate::format::{Format, Outcome, Reader, STRICT};
+use crate::original;
 use crate::port;
 use crate::random::Random;
 use std::hint::black_box;
@@ -17,7 +18,7 @@ pub fn bench(seed: u64) {
         let texts: Vec<Vec<u8>> = (0..TEXTS).map(|_| text(&mut random, length)).collect();
         let (mut of_s, mut of_port) = (f64::MAX, f64::MAX);
         for _ in 0..ROUNDS {
-            of_s = of_s.min(round(&texts, read_by_s));
+            of_s = of_s.min(round(&texts, original::reads_i32f32));
             of_port = of_port.min(round(&texts, read_by_port));
         }
         match read_by_port(b"1") {
@@ -45,11 +46,8 @@ fn round(texts: &[Vec<u8>], read: impl Fn(&[u8]) -> bool) -> f64 {
     start.elapsed().as_secs_f64() * 1e9 / texts.len() as f64
 }
 
-fn read_by_s(text: &[u8]) -> bool {
-    s::from_str::i64::from_str_radix(text, 10, 32).is_ok()
-}
-
 fn read_by_port(text: &[u8]) -> bool {
     let format = Format { signed: true, width: 64, frac: 32 };
-    port::answer(text, Reader::Plain { radix: 10, manner: STRICT }, format).is_some_and(|answer| answer.number == 0)
+    let outcome = port::answer(text, Reader::Plain { radix: 10, manner: STRICT }, format);
+    matches!(outcome, Outcome::Answered(answer) if answer.number == 0)
 }

@@ -52,9 +52,7 @@ impl Class {
             Class::NoWholeBits => format.frac == format.width && moved.bits != 0 && moved.no_whole,
             Class::HexLetter => whole_from_fraction(moved) && moved.first_digit() > 9,
             Class::HexShift => whole_from_fraction(moved) && moved.first_digit() >> (3 - moved.bits) != 0,
-            Class::FalseHalf => {
-                format.frac == 0 && moved.bits == 1 && moved.fraction_is(&[(moved.radix / 2) as u8])
-            }
+            Class::FalseHalf => format.frac == 0 && moved.bits == 1 && moved.fraction_is(&[(moved.radix / 2) as u8]),
             Class::MissedHalf => format.frac == 0 && moved.bits != 0 && half_above_odd(moved),
             Class::FirstDigit => {
                 !moved.fraction.is_empty() && moved.bits != 0 && format.frac < moved.digit_bits - moved.bits
@@ -167,4 +165,3 @@ fn tie_above(floor: u64, frac: u32, length: usize) -> Vec<u8> {
     }
     digits
 }
-

@@ -51,3 +51,13 @@ impl Answer {
         Answer { number, flag: false, value: 0 }
     }
 }
+
+/// What came of a question to S or to the port.
+#[derive(Clone, Copy, Debug, PartialEq, Eq)]
+pub enum Outcome {
+    Answered(Answer),
+    #[cfg_attr(without_s, allow(dead_code))]
+    Panicked,
+    /// That side was not at hand when the harness was built.
+    Absent,
+}

@@ -1,8 +1,8 @@
 //! The exact model: the answer that document 01 asks for, by big naturals.
 
-use crate::format::{Answer, Format, Reader, LONGEST_TEXT, OVERFLOWING, RADIXES, SATURATING, STRICT, WIDTHS, WRAPPING};
+use crate::format::{Answer, Format, LONGEST_TEXT, OVERFLOWING, RADIXES, Reader, SATURATING, STRICT, WIDTHS, WRAPPING};
 use crate::natural::Natural;
-use crate::scan::{scan, Written};
+use crate::scan::{Written, scan};
 
 /// The largest power of five that is one place of a `Natural`.
 const FIVES_AT_ONCE: u64 = 27;

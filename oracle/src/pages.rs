@@ -2,7 +2,7 @@
 //! and cannot drift from what they describe.
 
 use crate::classes::Class;
-use crate::format::{Answer, Format, Reader, MANNERS, STRICT};
+use crate::format::{Answer, Format, MANNERS, Reader, STRICT};
 
 const GRAMMAR: &str = include_str!("../../docs/GRAMMAR.md");
 const DIFFERENCES: &str = include_str!("../../docs/DIFFERENCES.md");
@@ -33,7 +33,8 @@ pub fn witnesses() -> Vec<Witness> {
 }
 
 fn rows(page: &'static str) -> impl Iterator<Item = Vec<&'static str>> {
-    page.lines().filter_map(|line| Some(line.strip_prefix("| ")?.strip_suffix(" |")?.split('|').map(str::trim).collect()))
+    page.lines()
+        .filter_map(|line| Some(line.strip_prefix("| ")?.strip_suffix(" |")?.split('|').map(str::trim).collect()))
 }
 
 fn telling_text(cells: &[&'static str]) -> Option<Stated> {

@@ -1,6 +1,8 @@
 //! The port, through its C interface (include/tamqoret.h). Built without an archive, it answers nothing.
 
-use crate::format::{Answer, Format, Reader};
+#[cfg(port)]
+use crate::format::Answer;
+use crate::format::{Format, Outcome, Reader};
 
 #[cfg(port)]
 mod linked {
@@ -19,8 +21,22 @@ mod linked {
     }
 
     unsafe extern "C" {
-        pub fn tq_read_signed(text: *const u8, len: usize, width: u32, frac: u32, radix: u32, manner: u32) -> SignedAnswer;
-        pub fn tq_read_unsigned(text: *const u8, len: usize, width: u32, frac: u32, radix: u32, manner: u32) -> UnsignedAnswer;
+        pub fn tq_read_signed(
+            text: *const u8,
+            len: usize,
+            width: u32,
+            frac: u32,
+            radix: u32,
+            manner: u32,
+        ) -> SignedAnswer;
+        pub fn tq_read_unsigned(
+            text: *const u8,
+            len: usize,
+            width: u32,
+            frac: u32,
+            radix: u32,
+            manner: u32,
+        ) -> UnsignedAnswer;
         pub fn tq_literal_signed(text: *const u8, len: usize, width: u32, frac: u32) -> SignedAnswer;
         pub fn tq_literal_unsigned(text: *const u8, len: usize, width: u32, frac: u32) -> UnsignedAnswer;
         pub fn tq_log10_signed(raw: i64, width: u32, frac: u32) -> SignedAnswer;
@@ -29,12 +45,12 @@ mod linked {
 }
 
 #[cfg(port)]
-fn answered(number: u32, flag: u32, value: i128) -> Answer {
-    Answer { number, flag: flag != 0, value }
+fn answered(number: u32, flag: u32, value: i128) -> Outcome {
+    Outcome::Answered(Answer { number, flag: flag != 0, value })
 }
 
 #[cfg(port)]
-pub fn answer(text: &[u8], reader: Reader, Format { signed, width, frac }: Format) -> Option<Answer> {
+pub fn answer(text: &[u8], reader: Reader, Format { signed, width, frac }: Format) -> Outcome {
     let (start, len) = (text.as_ptr(), text.len());
     // SAFETY: the pointer and the length are those of a slice that outlives the call
     let (number, flag, value) = unsafe {
@@ -57,12 +73,12 @@ pub fn answer(text: &[u8], reader: Reader, Format { signed, width, frac }: Forma
             }
         }
     };
-    Some(answered(number, flag, value))
+    answered(number, flag, value)
 }
 
 /// The raw is one that the format holds, so the casts lose nothing.
 #[cfg(port)]
-pub fn log10(raw: i128, Format { signed, width, frac }: Format) -> Option<Answer> {
+pub fn log10(raw: i128, Format { signed, width, frac }: Format) -> Outcome {
     // SAFETY: numbers only
     let got = unsafe {
         if signed {
@@ -71,15 +87,15 @@ pub fn log10(raw: i128, Format { signed, width, frac }: Format) -> Option<Answer
             linked::tq_log10_unsigned(raw as u64, width, frac)
         }
     };
-    Some(answered(got.number, got.flag, i128::from(got.value)))
+    answered(got.number, got.flag, i128::from(got.value))
 }
 
 #[cfg(not(port))]
-pub fn answer(_: &[u8], _: Reader, _: Format) -> Option<Answer> {
-    None
+pub fn answer(_: &[u8], _: Reader, _: Format) -> Outcome {
+    Outcome::Absent
 }
 
 #[cfg(not(port))]
-pub fn log10(_: i128, _: Format) -> Option<Answer> {
-    None
+pub fn log10(_: i128, _: Format) -> Outcome {
+    Outcome::Absent
 }

@@ -2,12 +2,12 @@
 //! of docs/DIFFERENCES.md and for refusals that S does not know, the model's.
 
 use crate::classes::{Class, Occasion};
-use crate::compare::answer_of_s;
-use crate::format::{Answer, Format, Reader, LONGEST_TEXT, MANNERS, RADIXES, STRICT, WIDTHS};
+use crate::format::{Answer, Format, LONGEST_TEXT, MANNERS, Outcome, RADIXES, Reader, STRICT, WIDTHS};
 use crate::model;
+use crate::original;
 use crate::pages;
+use crate::picks::{all_pairs, around_powers_of_ten, both_signs, raw_of};
 use crate::random::Random;
-use crate::runs::{all_pairs, around_powers_of_ten, both_signs, signed_raw};
 use crate::scan::scan;
 use crate::texts;
 
@@ -24,7 +24,9 @@ const LONGEST: usize = 12;
 
 pub fn text_sample(seed: u64) {
     println!("# Answers of the reader, made by: oracle/run FOLDER sample text --seed {seed}");
-    println!("# kind (p plain, l literal), signed, width, frac, radix, manner, number, flag, value, text in hexadecimal (- if empty)");
+    println!(
+        "# kind (p plain, l literal), signed, width, frac, radix, manner, number, flag, value, text in hexadecimal (- if empty)"
+    );
     let mut random = Random::new(seed);
     for stated in pages::telling_texts().iter().chain(pages::witnesses().iter().map(|witness| &witness.right)) {
         line(stated.text, stated.reader, stated.format);
@@ -52,7 +54,7 @@ pub fn log10_sample(seed: u64) {
         raws.extend((0..RAWS_PER_FORMAT).map(|_| random.pick(&around_powers_of_ten(frac))));
         for format in both_signs(width, frac) {
             for raw in &raws {
-                let raw = signed_raw(*raw, format);
+                let raw = raw_of(*raw, format);
                 let Answer { number, value, .. } = model::log10(raw, format);
                 println!("{} {width} {frac} {number} {value} {raw}", u8::from(format.signed));
             }
@@ -75,7 +77,7 @@ fn ties(random: &mut Random, format: Format) {
     for _ in 0..TIES_PER_FORMAT {
         let radix = random.pick(&[2, 8, 10, 10, 10, 16]);
         let raw = random.next() >> (64 - format.width) >> random.below(format.width as usize);
-        let (whole, fraction) = texts::expansion(2 * u128::from(raw) + 1, format.frac + 1, radix);
+        let (whole, fraction) = texts::tie_above(raw, format.frac, radix);
         let cut = if random.one_in(4) { fraction.len() } else { random.below(fraction.len() + 1).min(20) };
         let sign: &[u8] = random.pick(&[b"".as_slice(), b"-"]);
         let reader = Reader::Plain { radix, manner: random.pick(&MANNERS) };
@@ -108,7 +110,7 @@ fn classes(random: &mut Random) {
 fn likely(random: &mut Random, radix: u32, format: Format) -> Vec<u8> {
     if radix == 10 {
         let raw = random.next() >> (64 - format.width);
-        let (whole, fraction) = texts::expansion(2 * u128::from(raw) + 1, format.frac + 1, 10);
+        let (whole, fraction) = texts::tie_above(raw, format.frac, 10);
         let cut = random.below(fraction.len() + 1).min(30);
         let fraction: &[u8] = if random.one_in(3) { b"251" } else { &fraction[..cut] };
         return texts::joined(b"", &whole, fraction);
@@ -183,8 +185,8 @@ fn stored(text: &[u8], reader: Reader, format: Format) -> Answer {
     let scanned = scan(text, reader, format.signed);
     let occasion = Occasion { text, reader, format, written: scanned.as_ref().ok() };
     if Class::of(&occasion).is_none() {
-        let of_s = answer_of_s(text, reader, format);
-        assert_eq!(of_s, Some(right), "S and the model differ outside the classes");
+        let of_s = original::answer(text, reader, format);
+        assert_eq!(of_s, Outcome::Answered(right), "the sample wants S, and S as the model outside the classes");
     }
     right
 }

@@ -61,6 +61,11 @@ pub fn expansion(numerator: u128, bits: u32, radix: u32) -> (Vec<u8>, Vec<u8>) {
     (whole, fraction)
 }
 
+/// The tie between a raw and the next: (raw + 1/2) / 2^frac.
+pub fn tie_above(raw: u64, frac: u32, radix: u32) -> (Vec<u8>, Vec<u8>) {
+    expansion(2 * u128::from(raw) + 1, frac + 1, radix)
+}
+
 pub fn joined(sign: &[u8], whole: &[u8], fraction: &[u8]) -> Vec<u8> {
     let mut text = [sign, whole].concat();
     if !fraction.is_empty() || whole.is_empty() {
@@ -70,23 +75,6 @@ pub fn joined(sign: &[u8], whole: &[u8], fraction: &[u8]) -> Vec<u8> {
     if whole.is_empty() && fraction.is_empty() {
         text.push(b'0');
     }
-    text
-}
-
-/// The digits with the point moved `left` places to the left, and an exponent that makes up for it.
-pub fn moved(whole: &[u8], fraction: &[u8], left: i64, mark: u8, digit_exponent: i64) -> Vec<u8> {
-    let mut digits = [whole, fraction].concat();
-    let mut point = whole.len() as i64 - left;
-    while point < 0 {
-        digits.insert(0, b'0');
-        point += 1;
-    }
-    while point > digits.len() as i64 {
-        digits.push(b'0');
-    }
-    let mut text = joined(b"", &digits[..point as usize], &digits[point as usize..]);
-    text.push(mark);
-    text.extend((left * digit_exponent).to_string().bytes());
     text
 }
 
