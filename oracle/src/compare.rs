@@ -110,10 +110,12 @@ impl Tally {
         self.counted(|tally| tally.judge_port(&occasion, model::answer(text, reader, format)));
     }
 
+    /// S takes no zero and no negative number (the crate panics there, we refuse), and has no raw that the format does
+    /// not hold; the port takes any.
     pub fn log10(&mut self, raw: i128, format: Format) {
         let right = model::log10(raw, format);
-        // S takes no zero and no negative number: the crate panics there, we refuse
-        let of_s = if raw > 0 { original::log10(raw, format) } else { Outcome::Absent };
+        let known_to_s = format.refusal().is_none() && raw > 0 && raw <= format.highest();
+        let of_s = if known_to_s { original::log10(raw, format) } else { Outcome::Absent };
         self.counted(|tally| {
             tally.judge_log10("S", raw, format, of_s, right);
             tally.judge_log10("the port", raw, format, port::log10(raw, format), right);

@@ -19,6 +19,17 @@ pub const OVERFLOWING: u32 = 3;
 pub const LONGEST_TEXT: usize = 4096;
 
 impl Format {
+    /// Refusals 1 and 2: a width that is not one of the four, F above W.
+    pub fn refusal(self) -> Option<u32> {
+        if !WIDTHS.contains(&self.width) {
+            Some(1)
+        } else if self.frac > self.width {
+            Some(2)
+        } else {
+            None
+        }
+    }
+
     pub fn lowest(self) -> i128 {
         if self.signed { -(1 << (self.width - 1)) } else { 0 }
     }

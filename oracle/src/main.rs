@@ -41,8 +41,7 @@ fn compare_all(effort: &Effort, names: &[String]) -> i32 {
     if let Some(unknown) = unknown {
         usage(&format!("no run is called {unknown}"));
     }
-    // a panic of S is an answer like another: it is counted where it differs, not printed
-    std::panic::set_hook(Box::new(|_| {}));
+    original::hide_panics_of_s();
     let mut total = Tally::default();
     measured("pages", &mut total, |tally| {
         tally.witnesses();

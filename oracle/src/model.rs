@@ -1,6 +1,6 @@
 //! The exact model: the answer that document 01 asks for, by big naturals.
 
-use crate::format::{Answer, Format, LONGEST_TEXT, OVERFLOWING, RADIXES, Reader, SATURATING, STRICT, WIDTHS, WRAPPING};
+use crate::format::{Answer, Format, LONGEST_TEXT, OVERFLOWING, RADIXES, Reader, SATURATING, STRICT, WRAPPING};
 use crate::natural::Natural;
 use crate::scan::{Written, scan};
 
@@ -135,21 +135,21 @@ pub fn answer(text: &[u8], reader: Reader, format: Format) -> Answer {
 /// Refusals 1 to 4, in document 01's order.
 pub fn refusal(text: &[u8], reader: Reader, format: Format) -> Option<u32> {
     let unknown_radix = matches!(reader, Reader::Plain { radix, .. } if !RADIXES.contains(&radix));
-    if !WIDTHS.contains(&format.width) {
-        Some(1)
-    } else if format.frac > format.width {
-        Some(2)
-    } else if unknown_radix {
+    let of_text = if unknown_radix {
         Some(3)
     } else if text.len() > LONGEST_TEXT {
         Some(4)
     } else {
         None
-    }
+    };
+    format.refusal().or(of_text)
 }
 
 /// The greatest k with 10^k <= raw / 2^frac, by trying; 32 where there is none.
 pub fn log10(raw: i128, format: Format) -> Answer {
+    if let Some(number) = format.refusal() {
+        return Answer::refused(number);
+    }
     if raw <= 0 {
         return Answer::refused(32);
     }

@@ -202,6 +202,7 @@ fn refusals(tally: &mut Tally, _: &Effort) {
 }
 
 fn refusals_of(tally: &mut Tally, format: Format) {
+    tally.log10(1, format);
     let long = vec![b'1'; LONGEST_TEXT + 1];
     for text in [&b""[..], b"1", &long[..LONGEST_TEXT], &long] {
         tally.port_only(text, Reader::Literal, format);
@@ -211,7 +212,8 @@ fn refusals_of(tally: &mut Tally, format: Format) {
     }
 }
 
-/// log10 of every raw of the narrow widths, and of raws around the powers of ten and random ones of the wide widths.
+/// log10 of every raw of the narrow widths, of raws around the powers of ten and random ones of the wide widths, and of
+/// some that the format does not hold: an operand is the number that it is.
 fn log10(tally: &mut Tally, effort: &Effort) {
     let mut random = Random::new(effort.seed + 6);
     for (width, frac) in all_pairs() {
@@ -219,6 +221,8 @@ fn log10(tally: &mut Tally, effort: &Effort) {
         raws.extend((0..100 * effort.times).map(|_| random.next() >> random.below(64)));
         for format in both_signs(width, frac) {
             raws.iter().for_each(|bits| tally.log10(raw_of(*bits, format), format));
+            let most = if format.signed { i128::from(i64::MAX) } else { i128::from(u64::MAX) };
+            [format.highest() + 1, most / 3, most].iter().for_each(|raw| tally.log10((*raw).min(most), format));
         }
     }
 }
