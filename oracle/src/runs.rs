@@ -144,8 +144,9 @@ fn exponents(tally: &mut Tally, effort: &Effort) {
     for radix in RADIXES {
         for (mark, _) in texts::marks_of(radix) {
             for exponent in exponents.iter().cycle().take(exponents.len() * 4 * effort.times as usize) {
+                let sign: &[u8] = random.pick(&[b"".as_slice(), b"-", b"+"]);
                 let whole = texts::digits(&mut random, radix, 20);
-                let mut text = texts::joined(b"", &whole, &texts::digits(&mut random, radix, 20));
+                let mut text = texts::joined(sign, &whole, &texts::digits(&mut random, radix, 20));
                 text.push(*mark);
                 text.extend(exponent.to_string().bytes());
                 tally.text(&text, Some(radix), &some_formats(&mut random));

@@ -53,13 +53,22 @@ pub fn log10_sample(seed: u64) {
         let mut raws: Vec<u64> = (0..RAWS_PER_FORMAT).map(|_| random.next() >> random.below(64)).collect();
         raws.extend((0..RAWS_PER_FORMAT).map(|_| random.pick(&around_powers_of_ten(frac))));
         for format in both_signs(width, frac) {
-            for raw in &raws {
-                let raw = raw_of(*raw, format);
-                let Answer { number, value, .. } = model::log10(raw, format);
-                println!("{} {width} {frac} {number} {value} {raw}", u8::from(format.signed));
-            }
+            raws.iter().for_each(|bits| log10_line(raw_of(*bits, format), format));
         }
     }
+    for (width, frac) in [(0, 0), (7, 8), (9, 9), (24, 25), (128, 0), (8, 9), (16, 17), (32, 33), (64, 65)] {
+        both_signs(width, frac).iter().for_each(|format| log10_line(0, *format));
+    }
+}
+
+fn log10_line(raw: i128, format: Format) {
+    let right = model::log10(raw, format);
+    if right.number == 0 {
+        let of_s = original::log10(raw, format);
+        assert_eq!(of_s, Outcome::Answered(right), "the sample wants S, and S as the model");
+    }
+    let signed = u8::from(format.signed);
+    println!("{signed} {} {} {} {} {raw}", format.width, format.frac, right.number, right.value);
 }
 
 fn every_manner(random: &mut Random, format: Format) {
