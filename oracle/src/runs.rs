@@ -111,12 +111,22 @@ fn ends(tally: &mut Tally, _: &Effort) {
 }
 
 fn around_end(tally: &mut Tally, width: u32, frac: u32, quarters: u128) {
+    let formats = both_signs(width, frac);
     for radix in RADIXES {
         let (whole, fraction) = texts::expansion(quarters, frac + 2, radix);
         let a_hair_more = [&fraction[..], b"0001"].concat();
         for sign in [&b""[..], b"-", b"+"] {
-            tally.text(&texts::joined(sign, &whole, &fraction), Some(radix), &both_signs(width, frac));
-            tally.text(&texts::joined(sign, &whole, &a_hair_more), Some(radix), &both_signs(width, frac));
+            tally.text(&texts::joined(sign, &whole, &fraction), Some(radix), &formats);
+            tally.text(&texts::joined(sign, &whole, &a_hair_more), Some(radix), &formats);
+        }
+    }
+    // the same numbers under an exponent that is a part of a digit
+    for (radix, bits) in [(8, 1), (8, 2), (16, 1), (16, 2), (16, 3)] {
+        let (whole, fraction) = texts::expansion(quarters, frac + 2 + bits, radix);
+        let mark = format!("p{bits}");
+        for sign in [&b""[..], b"-"] {
+            let text = [texts::joined(sign, &whole, &fraction), mark.clone().into_bytes()].concat();
+            tally.text(&text, Some(radix), &formats);
         }
     }
 }
