@@ -1,8 +1,27 @@
 // Which texts are numbers, and where their digits stand (docs/GRAMMAR.md; `parse_bounds` and `lit` of S's src/from_str.rs).
 
+ghost use mathlib.Core.Path.{_≡_};
+ghost use Rattle.grammar.specs.Meaning.{isRadix};
+
 pub mod byte;
 pub mod literal;
 pub mod scan;
 
 // The longest text that is read.
 pub const TEXT_LIMIT: usize = 4096;
+
+// Whether a radix is one of the four.
+pub fn is_radix(radix: u32) -> bool
+    ensures { λ r. ⌜ r ≡ isRadix radix ⌝ }
+{
+    if radix == 2 {
+        return true;
+    }
+    if radix == 8 {
+        return true;
+    }
+    if radix == 10 {
+        return true;
+    }
+    radix == 16
+}
