@@ -128,12 +128,12 @@ impl Tally {
         });
     }
 
-    /// S and the port against the model; where S differs, one of the classes must explain it.
+    /// S and the port against the model; where S differs, one of the classes must explain it. None explains a panic.
     fn compare(&mut self, occasion: &Occasion, right: Answer) {
         let found = original::answer(occasion.text, occasion.reader, occasion.format);
         self.settle(found, right, |tally| match Class::of(occasion) {
-            Some(class) => tally.explained(class, occasion),
-            None => tally.differs("S", occasion, found, right),
+            Some(class) if found != Outcome::Panicked => tally.explained(class, occasion),
+            _ => tally.differs("S", occasion, found, right),
         });
         self.judge_port(occasion, right);
     }
