@@ -1,78 +1,66 @@
--- Document 01's cases as far as the manner alone decides them: the number of steps, already rounded, into the format.
+-- Document 01's cases as far as the manner alone decides them, computed from the meaning: a row is a manner, a format, a number of steps
+-- that is already rounded, and what it gives. Assumes nothing.
 use mathlib.Core.Path.{_≡_, refl}
 use mathlib.Core.Bool.{true, false}
-use lib.IntN.{ℤ, pos, negsuc}
+use mathlib.Core.List.{List, [], _∷_, map}
+use Prim.Native.Nat.{ℕ}
+use lib.IntN.{ℤ, pos, negℤ}
 use Rattle.format.specs.declared.Manner.the-variants.{Strict, Saturating, Wrapping, Overflowing}
-use Rattle.format.specs.Meaning.{signed, unsigned, isWidth, faultOf, lowest, highest, fits, hold, wrap, settle, withSign, done, refused}
+use Rattle.format.specs.Meaning.{signed, unsigned, isWidth, faultOf, lowest, highest, fits, hold, wrap, settle, withSign, unless, Outcome, done, refused}
 
-module _ where
-  -- W 8 signed, F 4: `7.96875` rounds to 128, `-8.03125` to -128
-  i8-past : settle Strict signed 8 (pos 128) ≡ refused 10
-  unfolding settle fits lowest highest
-  i8-past = refl
+-- what comes out, with the flag clear: a raw, or one below 0
+abbrev raw : ℕ → Outcome
+raw n = done (pos n) false
 
-  i8-least : settle Strict signed 8 (withSign true 128) ≡ done (negsuc 127) false
-  unfolding settle fits lowest highest withSign
-  i8-least = refl
+abbrev minus : ℕ → Outcome
+minus n = done (negℤ (pos n)) false
 
-  -- W 8 signed, F 0: `127.5` wraps to -128, is held to 127, and sets the flag
-  i8-wraps : settle Wrapping signed 8 (pos 128) ≡ done (negsuc 127) false
-  unfolding settle wrap lowest
-  i8-wraps = refl
+-- a number of steps, and one below 0
+abbrev steps : ℕ → ℤ
+steps n = withSign false n
 
-  i8-holds : settle Saturating signed 8 (pos 128) ≡ done (pos 127) false
-  unfolding settle hold lowest highest
-  i8-holds = refl
+abbrev below : ℕ → ℤ
+below n = withSign true n
 
-  i8-flags : settle Overflowing signed 8 (pos 128) ≡ done (negsuc 127) true
-  unfolding settle wrap fits lowest highest
-  i8-flags = refl
+-- A row: what the meaning computes, and what is written.
+infix 80 _gives_
+data Case : Type 0 where
+  _gives_ : Outcome → Outcome → Case
 
-  -- W 8 unsigned, F 0: `-0.4` rounds to 0, `-0.6` to -1
-  u8-none : settle Strict unsigned 8 (withSign true 0) ≡ done (pos 0) false
-  unfolding settle fits lowest highest withSign
-  u8-none = refl
+got : Case → Outcome
+unfolding isWidth faultOf lowest highest fits hold wrap settle withSign unless
+got (a gives b) = a
 
-  u8-below : settle Strict unsigned 8 (withSign true 1) ≡ refused 10
-  unfolding settle fits lowest highest withSign
-  u8-below = refl
+abbrev want : Case → Outcome
+want (a gives b) = b
 
-  -- I1F15: `-1` is -32768, `1` overflows, `0.99998` is 32767, `0.99999` rounds to 32768
-  i1f15-least : settle Strict signed 16 (withSign true 32768) ≡ done (negsuc 32767) false
-  unfolding settle fits lowest highest withSign
-  i1f15-least = refl
+document : List Case
+document =
+    -- W 8 signed, F 4: `7.96875` rounds to 128, `-8.03125` to -128
+    settle Strict signed 8 (steps 128) gives refused 10
+    ∷ settle Strict signed 8 (below 128) gives minus 128
+    -- W 8 signed, F 0: `127.5` rounds to 128
+    ∷ settle Wrapping signed 8 (steps 128) gives minus 128
+    ∷ settle Saturating signed 8 (steps 128) gives raw 127
+    ∷ settle Overflowing signed 8 (steps 128) gives done (negℤ (pos 128)) true
+    -- W 8 unsigned, F 0: `-0.4` rounds to 0, `-0.6` to -1
+    ∷ settle Strict unsigned 8 (below 0) gives raw 0
+    ∷ settle Strict unsigned 8 (below 1) gives refused 10
+    -- I1F15: `-1`, `1`, `0.99998`; `0.99999` rounds to 32768
+    ∷ settle Strict signed 16 (below 32768) gives minus 32768
+    ∷ settle Strict signed 16 (steps 32768) gives refused 10
+    ∷ settle Strict signed 16 (steps 32767) gives raw 32767
+    -- W 32 signed: maximum plus one step, wrapping, is the minimum
+    ∷ settle Wrapping signed 32 (steps 2147483648) gives minus 2147483648
+    -- far past full scale: the end of the number's own sign, whatever the wrapped number's sign
+    ∷ settle Saturating signed 8 (steps 384) gives raw 127
+    ∷ settle Saturating signed 8 (below 385) gives minus 128
+    -- refusals of a format: 1 before 2
+    ∷ unless (faultOf 7 9) (raw 0) gives refused 1
+    ∷ unless (faultOf 8 9) (raw 0) gives refused 2
+    ∷ unless (faultOf 8 8) (raw 0) gives raw 0
+    ∷ []
 
-  i1f15-most : settle Strict signed 16 (pos 32767) ≡ done (pos 32767) false
-  unfolding settle fits lowest highest
-  i1f15-most = refl
-
-  i1f15-past : settle Strict signed 16 (pos 32768) ≡ refused 10
-  unfolding settle fits lowest highest
-  i1f15-past = refl
-
-  -- W 32 signed: maximum plus one step, wrapping, is the minimum
-  i32-wraps : settle Wrapping signed 32 (pos 2147483648) ≡ done (lowest signed 32) false
-  unfolding settle wrap lowest
-  i32-wraps = refl
-
-  -- a sum far past full scale is held to the end of its own sign, whatever the wrapped number's sign
-  far-high : settle Saturating signed 8 (pos 384) ≡ done (pos 127) false
-  unfolding settle hold lowest highest
-  far-high = refl
-
-  far-low : settle Saturating signed 8 (negsuc 384) ≡ done (negsuc 127) false
-  unfolding settle hold lowest highest
-  far-low = refl
-
-  -- refusals of a format: 1 before 2
-  width-first : faultOf 7 9 ≡ 1
-  unfolding faultOf isWidth
-  width-first = refl
-
-  frac-next : faultOf 8 9 ≡ 2
-  unfolding faultOf isWidth
-  frac-next = refl
-
-  frac-all : faultOf 8 8 ≡ 0
-  unfolding faultOf isWidth
-  frac-all = refl
+document-right : map got document ≡ map want document
+unfolding got document isWidth faultOf lowest highest fits hold wrap settle withSign unless
+document-right = refl
