@@ -81,15 +81,27 @@ expEndOf p seen e = cond (noDigits p) (Refused 11) (cond seen (Number (withExpon
 abbrev pub Counted : List ℕ → Run → Type 0
 Counted t r = r .digits ≡ length (spanOf t r)
 
+-- The digits of a stretch of text: those of its bytes other than `_` and the point. From the first digit of a number to the last there is
+-- one stretch, which has the digits of both runs.
+unfoldable pub bodyOf : List ℕ → List ℕ
+bodyOf [] = []
+bodyOf (b ∷ t) = cond (eqb b 95 || eqb b 46) (bodyOf t) (digitOf b ∷ bodyOf t)
+
+pub record Stretch (t : List ℕ) (w f : Run) : Type 0 where
+  pub start : w .from ≤ f .to
+  pub end : f .to ≤ length t
+  pub both : bodyOf (part t (w .from) (f .to)) ≡ spanOf t w ++ spanOf t f
+
 -- what is carried from part to part
 pub record Ready (t : List ℕ) (p : Parsed) : Type 0 where
   pub whole-counted : Counted t (p .whole)
   pub frac-counted : Counted t (p .frac)
   pub small : p .exp ≤ 2147483648
+  pub stretch : Stretch t (p .whole) (p .frac)
 
--- the answer is what the scan comes to, and its counts are right
+-- the answer is what the scan comes to, and its counts and its stretch are right
 pub data Finds (t : List ℕ) : Found → Reading → Type 0 where
-  finds : {p : Parsed} {y : Reading} → y ≡ number (writtenOf t p) → Counted t (p .whole) → Counted t (p .frac) → Finds t (Number p) y
+  finds : {p : Parsed} {y : Reading} → y ≡ number (writtenOf t p) → Ready t p → Finds t (Number p) y
   refuses : {n : ℕ} {y : Reading} → y ≡ unread n → Finds t (Refused n) y
 
 -- ---- the loop over a run
@@ -228,23 +240,26 @@ module _ (t : List ℕ) (p : Parsed) (ready : Ready t p) where
   unfolding writtenOf
   exp-written e = refl
 
+  ready-exp : (e : ℕ) → e ≤ 2147483648 → Ready t (withExponent p e)
+  ready-exp e l = record { whole-counted = ready .whole-counted; frac-counted = ready .frac-counted; small = l; stretch = ready .stretch }
+
   pub finds-unmarked : {r : Found} {w : Reading} → r ≡ unmarkedOf p → w ≡ cond (eqb (length (writtenOf t p .digits)) 0) (unread 11) (number (writtenOf t p)) → Finds t r w
   unfolding unmarkedOf
   finds-unmarked {r} {w} q e = go (noDigits p) q (e ∙ ap (λ (g : Bool). cond g (unread 11) (number (writtenOf t p))) (sym no-digits-is))
     where
       go : (g : Bool) → r ≡ cond g (Refused 11) (Number p) → w ≡ cond g (unread 11) (number (writtenOf t p)) → Finds t r w
       go true q e = subst (λ (f : Found). Finds t f w) (sym q) (refuses e)
-      go false q e = subst (λ (f : Found). Finds t f w) (sym q) (finds e (ready .whole-counted) (ready .frac-counted))
+      go false q e = subst (λ (f : Found). Finds t f w) (sym q) (finds e ready)
 
   pub finds-exp-end :
-      {r : Found} {w : Reading} (seen : Bool) (e : ℕ) → r ≡ expEndOf p seen e →
+      {r : Found} {w : Reading} (seen : Bool) (e : ℕ) → e ≤ 2147483648 → r ≡ expEndOf p seen e →
       w ≡ expEnd (eqb (length (writtenOf t p .digits)) 0) seen (withExp (writtenOf t p) (writtenOf t p .down) e) → Finds t r w
   unfolding expEndOf expEnd
-  finds-exp-end {r} {w} seen e q z = go (noDigits p) seen q (z ∙ ap (λ (g : Bool). expEnd g seen (withExp (writtenOf t p) (writtenOf t p .down) e)) (sym no-digits-is))
+  finds-exp-end {r} {w} seen e l q z = go (noDigits p) seen q (z ∙ ap (λ (g : Bool). expEnd g seen (withExp (writtenOf t p) (writtenOf t p .down) e)) (sym no-digits-is))
     where
       go : (g seen : Bool) → r ≡ cond g (Refused 11) (cond seen (Number (withExponent p e)) (Refused 17)) → w ≡ expEnd g seen (withExp (writtenOf t p) (writtenOf t p .down) e) → Finds t r w
       go true seen q z = subst (λ (f : Found). Finds t f w) (sym q) (refuses z)
-      go false true q z = subst (λ (f : Found). Finds t f w) (sym q) (finds (z ∙ exp-written e) (ready .whole-counted) (ready .frac-counted))
+      go false true q z = subst (λ (f : Found). Finds t f w) (sym q) (finds (z ∙ exp-written e) (ready-exp e l))
       go false false q z = subst (λ (f : Found). Finds t f w) (sym q) (refuses z)
 
 -- ---- where no sign stands
@@ -261,10 +276,10 @@ pub finds-by : (t : List ℕ) {r : Found} {y z : Reading} → y ≡ z → Finds 
 finds-by t {r} e f = subst (Finds t r) e f
 
 pub ready-down : (t : List ℕ) (p : Parsed) (d : Bool) {q : Parsed} → Ready t p → q ≡ withDown p d → Ready t q
-ready-down t p d h e = subst (Ready t) (sym e) (record { whole-counted = h .whole-counted; frac-counted = h .frac-counted; small = h .small })
+ready-down t p d h e = subst (Ready t) (sym e) (record { whole-counted = h .whole-counted; frac-counted = h .frac-counted; small = h .small; stretch = h .stretch })
 
 pub ready-base : (t : List ℕ) (p : Parsed) (b : ℕ) {q : Parsed} → Ready t p → q ≡ withMarkBase p b → Ready t q
-ready-base t p b h e = subst (Ready t) (sym e) (record { whole-counted = h .whole-counted; frac-counted = h .frac-counted; small = h .small })
+ready-base t p b h e = subst (Ready t) (sym e) (record { whole-counted = h .whole-counted; frac-counted = h .frac-counted; small = h .small; stretch = h .stretch })
 
 -- the sign of the exponent, at `from`, or none
 module _ (t : List ℕ) (from : ℕ) (skip : Bool) (radix : ℕ) (p : Parsed) where

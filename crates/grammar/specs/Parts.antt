@@ -8,15 +8,15 @@ use native.Mathlib.Nat.{zero-add}
 use native.Mathlib.Omega.{arith}
 use native.Mathlib.Numerals.{add-one}
 use lib.Dec.{eqb}
-use lib.ListN.{length, take, drop, getD, drop-of-length-le, length-map}
-use lib.Seq.{drop-cons, drop-drop}
+use lib.ListN.{length, take, drop, getD, drop-of-length-le, length-map, length-drop}
+use lib.Seq.{drop-cons, drop-drop, take-add}
 use borrow.Author.Tests.{ne-eqb}
 use Rattle.digits.specs.Meaning.{digitsOf}
 use Rattle.grammar.specs.Meaning.{digitOf, isDigit, isSign, isRadix, Written, Scan, at, whole, fraction, nothing, sign, blank, finish, scan, plainScan, Error}
-use Rattle.grammar.specs.Run.{valuesOf, sepOf, inRun, runMore, runLen, partOf, withDigits, seenAfter, scan-run}
-use Rattle.grammar.specs.Class.{classOf}
+use Rattle.grammar.specs.Run.{valuesOf, values-digit, values-under, both, sepOf, inRun, runMore, runLen, partOf, withDigits, seenAfter, scan-run}
+use Rattle.grammar.specs.Class.{classOf, Plain, digit-plain}
 use Rattle.grammar.specs.Reading.{Reading, number, unread, reading, readingOf, opened, afterRun, Stopped, read-after, read-point, read-end, signFirst, read-unsigned, read-sign}
-use Rattle.grammar.specs.Found.{part, spanOf, runOf, writtenOf, wholeOf, unmarkedOf, Counted, Ready, Finds, finds-by, finds-unmarked, no-sign-at, no-sign-past}
+use Rattle.grammar.specs.Found.{bodyOf, Stretch, more-fits, part, spanOf, runOf, writtenOf, wholeOf, unmarkedOf, Counted, Ready, Finds, finds-by, finds-unmarked, no-sign-at, no-sign-past}
 use Rattle.grammar.specs.declared.byte.Class.{Class}
 use Rattle.grammar.specs.declared.scan.Run.{Run}
 use Rattle.grammar.specs.declared.scan.Parsed.{Parsed}
@@ -108,12 +108,93 @@ part-point t from radix skip legal x y {end} {r} e same h b f =
     n : ℕ
     n = runLen skip radix (drop from t)
 
+-- ---- the digits of a run are those of its stretch: no point stands in it
+no-bytes : bodyOf [] ≡ valuesOf []
+unfolding bodyOf valuesOf digitsOf
+no-bytes = refl
+
+under-same : (b : ℕ) (t : List ℕ) → eqb b 95 ≡ true → bodyOf t ≡ valuesOf t → bodyOf (b ∷ t) ≡ valuesOf (b ∷ t)
+unfolding bodyOf
+under-same b t f q = rw f (q ∙ sym (values-under b t f))
+
+body-append : (a b : List ℕ) → bodyOf (a ++ b) ≡ bodyOf a ++ bodyOf b
+unfolding bodyOf
+body-append [] b = refl
+body-append (c ∷ a) b = go (eqb c 95 || eqb c 46) (body-append a b)
+  where
+    go : (g : Bool) → bodyOf (a ++ b) ≡ bodyOf a ++ bodyOf b → cond g (bodyOf (a ++ b)) (digitOf c ∷ bodyOf (a ++ b)) ≡ cond g (bodyOf a) (digitOf c ∷ bodyOf a) ++ bodyOf b
+    go true e = e
+    go false e = ap (λ (l : List ℕ). digitOf c ∷ l) e
+
+body-point : (t : List ℕ) → bodyOf (46 ∷ t) ≡ bodyOf t
+unfolding bodyOf
+body-point t = refl
+
+-- a stretch around a byte
+part-around : (t : List ℕ) (a m c : ℕ) → a ≤ m → m < c → c ≤ length t → part t a c ≡ part t a m ++ (getD t m 0 ∷ part t (m + 1) c)
+part-around t a m c h k l =
+    let n = c - (m + 1) in
+    let size : c - a ≡ m - a + suc n = omega arith in
+    let place : a + (m - a) ≡ m = omega arith in
+    ap (λ (j : ℕ). take j (drop a t)) size
+    ∙ take-add (m - a) (suc n) (drop a t)
+    ∙ ap (λ (r : List ℕ). part t a m ++ take (suc n) r) (drop-drop (m - a) a t ∙ ap (λ (j : ℕ). drop j t) place ∙ drop-cons t m 0 (omega arith))
+    ∙ ap (λ (j : ℕ). part t a m ++ (getD t m 0 ∷ take n (drop j t))) (sym (add-one m))
+
+values-same : (b : ℕ) (t u : List ℕ) → eqb b 46 ≡ false → eqb b 95 ≡ false → bodyOf t ≡ valuesOf u → bodyOf (b ∷ t) ≡ valuesOf (b ∷ u)
+unfolding bodyOf
+values-same b t u e f q = rw (e, f) (ap (λ (l : List ℕ). digitOf b ∷ l) q ∙ sym (values-digit b u f))
+
+module _ (skip : Bool) (radix : ℕ) (legal : isRadix radix ≡ true) where
+  body-more : (t : List ℕ) → bodyOf (take (runMore skip radix t) t) ≡ valuesOf (take (runMore skip radix t) t)
+  unfolding runMore
+  body-more [] = no-bytes
+  body-more (b ∷ t) = go (isDigit radix b) (skip && eqb b 95) refl refl (body-more t)
+    where
+      go : (d v : Bool) → isDigit radix b ≡ d → (skip && eqb b 95) ≡ v → bodyOf (take (runMore skip radix t) t) ≡ valuesOf (take (runMore skip radix t) t) →
+          bodyOf (take (cond (d || v) (suc (runMore skip radix t)) 0) (b ∷ t)) ≡ valuesOf (take (cond (d || v) (suc (runMore skip radix t)) 0) (b ∷ t))
+      go true v e f more =
+          let n = digit-plain radix b legal e in
+          values-same b (take (runMore skip radix t) t) (take (runMore skip radix t) t) (n .no-point) (n .no-under) more
+      go false true e f more = under-same b (take (runMore skip radix t) t) (both skip (eqb b 95) f .1) more
+      go false false e f more = no-bytes
+
+  pub body-run : (t : List ℕ) → bodyOf (take (runLen skip radix t) t) ≡ valuesOf (take (runLen skip radix t) t)
+  unfolding runLen
+  body-run [] = no-bytes
+  body-run (b ∷ t) = go (isDigit radix b) refl
+    where
+      go : (d : Bool) → isDigit radix b ≡ d → bodyOf (take (cond d (suc (runMore skip radix t)) 0) (b ∷ t)) ≡ valuesOf (take (cond d (suc (runMore skip radix t)) 0) (b ∷ t))
+      go true e =
+          let n = digit-plain radix b legal e in
+          values-same b (take (runMore skip radix t) t) (take (runMore skip radix t) t) (n .no-point) (n .no-under) (body-more t)
+      go false e = no-bytes
+
 -- ---- the places that the code keeps
 abbrev pub wholeParsed : Bool → Run → Parsed
 wholeParsed neg r = record { neg = neg; whole = r; frac = record { from = r .to; to = r .to; digits = 0 }; base = 1; down = false; exp = 0 }
 
 abbrev pub fracParsed : Bool → Run → Run → Parsed
 fracParsed neg w r = record { neg = neg; whole = w; frac = r; base = 1; down = false; exp = 0 }
+
+-- what the fraction needs of the whole part: the point stands behind it
+pub record Behind (t : List ℕ) (w : Run) (from : ℕ) : Type 0 where
+  pub counted : Counted t w
+  pub start : w .from ≤ w .to
+  pub next : from ≡ w .to + 1
+  pub point : getD t (w .to) 0 ≡ 46
+  pub inside : w .to < length t
+  pub body : bodyOf (part t (w .from) (w .to)) ≡ spanOf t w
+
+-- a run is no longer than what there is
+len-fits : (skip : Bool) (radix : ℕ) (t : List ℕ) → runLen skip radix t ≤ length t
+unfolding runLen
+len-fits skip radix [] = omega arith
+len-fits skip radix (b ∷ t) = go (isDigit radix b)
+  where
+    go : (d : Bool) → cond d (suc (runMore skip radix t)) 0 ≤ length (b ∷ t)
+    go true = omega (arith, more-fits skip radix t)
+    go false = omega arith
 
 no-span : (t : List ℕ) (k : ℕ) → spanOf t (record { from = k; to = k; digits = 0 }) ≡ []
 unfolding valuesOf digitsOf
@@ -135,8 +216,29 @@ module _ (t : List ℕ) (from radix : ℕ) (skip : Bool) {run : Run} (e : run �
       let z : from + n - from ≡ n = omega arith in
       ap (spanOf t) e ∙ ap (λ (k : ℕ). valuesOf (take k (drop from t))) z
 
-  pub whole-ready : (neg : Bool) → Ready t (wholeParsed neg run)
-  whole-ready neg = record { whole-counted = run-counted; frac-counted = sym (ap length (no-span t (run .to))); small = omega arith }
+  pub run-body : isRadix radix ≡ true → bodyOf (part t (run .from) (run .to)) ≡ spanOf t run
+  unfolding runOf
+  run-body legal =
+      let n = runLen skip radix (drop from t) in
+      let z : from + n - from ≡ n = omega arith in
+      subst (λ (r : Run). bodyOf (part t (r .from) (r .to)) ≡ spanOf t r) (sym e)
+      (ap (λ (k : ℕ). bodyOf (take k (drop from t))) z ∙ body-run skip radix legal (drop from t) ∙ ap (λ (k : ℕ). valuesOf (take k (drop from t))) (sym z))
+
+  pub run-start : run .from ≤ run .to
+  unfolding runOf
+  run-start = subst (λ (r : Run). r .from ≤ r .to) (sym e) (omega arith)
+
+  pub run-end-fits : from ≤ length t → run .to ≤ length t
+  run-end-fits h = omega (arith, run-to, len-fits skip radix (drop from t), length-drop from t)
+
+  pub whole-ready : from ≤ length t → isRadix radix ≡ true → (neg : Bool) → Ready t (wholeParsed neg run)
+  whole-ready h legal neg =
+      record {
+        whole-counted = run-counted;
+        frac-counted = sym (ap length (no-span t (run .to)));
+        small = omega arith;
+        stretch = record { start = run-start; end = run-end-fits h; both = run-body legal ∙ sym (append-nil (spanOf t run)) ∙ ap (λ (l : List ℕ). spanOf t run ++ l) (sym (no-span t (run .to))) };
+      }
 
   pub whole-is : (neg : Bool) → withDigits false (blank neg) (valuesOf (take (runLen skip radix (drop from t)) (drop from t))) ≡ wholeOf t neg run
   whole-is neg = ap (λ (ds : List ℕ). record { neg = neg; digits = ds; after = 0; base = 1; down = false; exp = 0 }) (sym run-span)
@@ -148,8 +250,29 @@ module _ (t : List ℕ) (from radix : ℕ) (skip : Bool) {run : Run} (e : run �
       ∙ ap (λ (ds : List ℕ). record { neg = neg; digits = ds; after = 0; base = 1; down = false; exp = 0 }) (sym (append-nil (spanOf t run)))
       ∙ ap (λ (ds : List ℕ). record { neg = neg; digits = spanOf t run ++ ds; after = length ds; base = 1; down = false; exp = 0 }) (sym (no-span t (run .to)))
 
-  pub frac-ready : (neg : Bool) (w : Run) → Counted t w → Ready t (fracParsed neg w run)
-  frac-ready neg w h = record { whole-counted = h; frac-counted = run-counted; small = omega arith }
+  run-from : run .from ≡ from
+  unfolding runOf
+  run-from = ap (λ (r : Run). r .from) e
+
+  pub frac-ready : from ≤ length t → isRadix radix ≡ true → (neg : Bool) (w : Run) → Behind t w from → Ready t (fracParsed neg w run)
+  frac-ready h legal neg w b =
+      record {
+        whole-counted = b .counted;
+        frac-counted = run-counted;
+        small = omega arith;
+        stretch = record {
+          start = omega (arith, b .start, b .next, run-from, run-start);
+          end = run-end-fits h;
+          both =
+              ap bodyOf (part-around t (w .from) (w .to) (run .to) (b .start) (omega (arith, b .next, run-from, run-start)) (run-end-fits h))
+              ∙ body-append (part t (w .from) (w .to)) (getD t (w .to) 0 ∷ part t (w .to + 1) (run .to))
+              ∙ ap₂ (λ (x y : List ℕ). x ++ y) (b .body)
+              (ap (λ (c : ℕ). bodyOf (c ∷ part t (w .to + 1) (run .to))) (b .point)
+              ∙ body-point (part t (w .to + 1) (run .to))
+              ∙ ap (λ (k : ℕ). bodyOf (part t k (run .to))) (sym (b .next) ∙ sym run-from)
+              ∙ run-body legal);
+        };
+      }
 
   pub frac-same : (neg : Bool) (w : Run) → withDigits true (wholeOf t neg w) (valuesOf (take (runLen skip radix (drop from t)) (drop from t))) ≡ writtenOf t (fracParsed neg w run)
   unfolding writtenOf

@@ -68,7 +68,7 @@ pub values-under : (b : ℕ) (t : List ℕ) → eqb b 95 ≡ true → valuesOf (
 unfolding valuesOf digitsOf isUnd
 values-under b t e = rw e
 
-both : (a b : Bool) → (a && b) ≡ true → (a ≡ true) × (b ≡ true)
+pub both : (a b : Bool) → (a && b) ≡ true → (a ≡ true) × (b ≡ true)
 both true b e = (refl, e)
 both false b e = absurd (false≢true e)
 

@@ -5,7 +5,8 @@ ghost use Prim.Native.Nat.{_+_, _*_, _<_, _≤_};
 ghost use lib.ListN.{length, drop};
 ghost use Rattle.grammar.specs.Meaning.{isRadix, at, whole as wholePart, fraction as fractionPart, exponent as exponentPart, nothing, sign as signSeen, blank, expLimit, plainScan};
 ghost use Rattle.grammar.specs.Run.{inRun, runMore, runLen, sepOf};
-ghost use Rattle.grammar.specs.Found.{runOf, noDigits, unmarkedOf, expEndOf, writtenOf, withDown, withMarkBase, wholeOf, Counted, Ready, Finds};
+ghost use Rattle.grammar.specs.Found.{runOf, noDigits, unmarkedOf, expEndOf, writtenOf, withDown, withMarkBase, wholeOf, Ready, Finds};
+ghost use Rattle.grammar.specs.Parts.{Behind};
 ghost use Rattle.grammar.specs.Reading.{reading, readingOf, afterRun, underNumber, expUnder, expDigit, expOther, expStepOf};
 use crate::byte;
 use crate::byte::Class;
@@ -280,7 +281,7 @@ fn after_run(class: Class, text: &[u8], next: usize, radix: u32, skip: bool, p: 
 
 // After the point.
 fn fraction(text: &[u8], from: usize, radix: u32, skip: bool, neg: bool, whole: Run) -> Found
-    requires { ⌜ (from ≤ length (now text)) × (isRadix radix ≡ true) × Counted (now text) whole ⌝ }
+    requires { ⌜ (from ≤ length (now text)) × (isRadix radix ≡ true) × Behind (now text) whole from ⌝ }
     ensures { λ r. ⌜ Finds (now (text .entry)) r (reading (sepOf skip) radix (drop from (now (text .entry))) (at fractionPart nothing (wholeOf (now (text .entry)) neg whole))) ⌝ }
 {
     let run = run_at(text, from, radix, skip);

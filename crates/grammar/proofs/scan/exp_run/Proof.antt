@@ -70,7 +70,7 @@ returns-2 c =
     let a = c .before .before .before .before .args in
     let l = c .before .before .loop in
     let t = a .text .now in
-    finds-exp-end t (a .p) (c .before .before .before .before .pre .1) (l .seen) (l .e) (c .exp-end .ensures)
+    finds-exp-end t (a .p) (c .before .before .before .before .pre .1) (l .seen) (l .e) (l .inv .1) (c .exp-end .ensures)
     (exp-over (a .skip) (a .radix) t (l .i) (writtenOf t (a .p)) (l .seen) (l .e) (l .inv .3) (omega arith))
 
 pub exp-run-spec : {M : Type 1} → statement M

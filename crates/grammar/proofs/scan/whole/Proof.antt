@@ -1,9 +1,10 @@
 -- `grammar::scan::whole` meets its contract: the run, then the byte in front of which it ended. Assumes nothing.
+use mathlib.Core.Path.{refl}
 use mathlib.Core.Bool.{false}
 use native.Mathlib.Omega.{arith}
 use Rattle.grammar.specs.Meaning.{blank}
 use Rattle.grammar.specs.Found.{wholeOf}
-use Rattle.grammar.specs.Parts.{part-end, part-after, part-point, wholeParsed, run-to, run-counted, whole-ready, whole-is, whole-same}
+use Rattle.grammar.specs.Parts.{part-end, part-after, part-point, wholeParsed, run-to, run-counted, run-start, run-body, whole-ready, whole-is, whole-same}
 use borrow.Author.Needs.{needs}
 use Rattle.grammar.proofs.scan.whole.Statement.{statement}
 use Rattle.grammar.proofs.scan.whole.Tie as tie
@@ -20,7 +21,7 @@ returns c =
     let t = a .text .now in
     let run = c .before .before .run-at .ensures in
     part-end t (a .from) (a .radix) (a .skip) (c .before .before .before .before .pre .1) false (blank (a .neg)) (wholeParsed (a .neg) (c .before .before .run-at .result))
-    (whole-ready t (a .from) (a .radix) (a .skip) run (a .neg))
+    (whole-ready t (a .from) (a .radix) (a .skip) run (c .before .before .before .before .pre .0) (c .before .before .before .before .pre .1) (a .neg))
     (run-to t (a .from) (a .radix) (a .skip) run) (whole-same t (a .from) (a .radix) (a .skip) run (a .neg)) (omega arith) (c .unmarked .ensures)
 
 shared-slice-read-b : tie.Need-shared-slice-read-b
@@ -32,7 +33,20 @@ add-fraction c = search needs
 fraction-requires : tie.Need-fraction-requires
 fraction-requires c κs =
     let a = c .before .before .before .before .before .args in
-    (search needs, c .before .before .before .before .before .pre .1, run-counted (a .text .now) (a .from) (a .radix) (a .skip) (c .before .before .before .run-at .ensures))
+    let run = c .before .before .before .run-at .ensures in
+    let t = a .text .now in
+    (
+      search needs,
+      c .before .before .before .before .before .pre .1,
+      record {
+        counted = run-counted t (a .from) (a .radix) (a .skip) run;
+        start = run-start t (a .from) (a .radix) (a .skip) run;
+        next = refl;
+        point = c .if2 .taken;
+        inside = omega arith;
+        body = run-body t (a .from) (a .radix) (a .skip) run (c .before .before .before .before .before .pre .1);
+      },
+    )
 
 returns-2 : tie.Need-returns-2
 returns-2 c =
@@ -51,7 +65,7 @@ add-after-run c = search needs
 after-run-requires : tie.Need-after-run-requires
 after-run-requires c κs =
     let a = c .before .before .before .before .before .before .args in
-    (search needs, whole-ready (a .text .now) (a .from) (a .radix) (a .skip) (c .before .before .before .before .run-at .ensures) (a .neg))
+    (search needs, whole-ready (a .text .now) (a .from) (a .radix) (a .skip) (c .before .before .before .before .run-at .ensures) (c .before .before .before .before .before .before .pre .0) (c .before .before .before .before .before .before .pre .1) (a .neg))
 
 returns-3 : tie.Need-returns-3
 returns-3 c =
@@ -59,7 +73,7 @@ returns-3 c =
     let t = a .text .now in
     let run = c .before .before .before .before .before .run-at .ensures in
     part-after t (a .from) (a .radix) (a .skip) (c .before .before .before .before .before .before .before .pre .1) false (blank (a .neg)) (wholeParsed (a .neg) (c .before .before .before .before .before .run-at .result))
-    (whole-ready t (a .from) (a .radix) (a .skip) run (a .neg))
+    (whole-ready t (a .from) (a .radix) (a .skip) run (c .before .before .before .before .before .before .before .pre .0) (c .before .before .before .before .before .before .before .pre .1) (a .neg))
     (run-to t (a .from) (a .radix) (a .skip) run) (whole-same t (a .from) (a .radix) (a .skip) run (a .neg)) (omega arith) (λ z b. c .before .before .if2 .left b) (c .before .class-of .ensures) (c .after-run .ensures)
 
 pub whole-spec : {M : Type 1} → statement M
