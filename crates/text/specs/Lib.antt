@@ -1,0 +1,4 @@
+pub mod Body
+pub mod Fold
+pub mod Round
+pub mod Theorems
