@@ -9,7 +9,7 @@ use lib.Dec.{eqb, ltb}
 use lib.ListN.{length, take, drop, getD, drop-of-length-le}
 use lib.Seq.{drop-cons, take-suc, getD-drop, drop-drop}
 use borrow.Author.Tests.{eq-eqb, ne-eqb, ltb-true, ltb-false}
-use Rattle.grammar.specs.Meaning.{digitOf, natFrom, natOf}
+use Rattle.grammar.specs.Meaning.{Written, digitOf, natFrom, natOf}
 use Rattle.grammar.specs.Rounding.{natFrom-snoc}
 use Rattle.text.specs.declared.fold.Folded.{Folded}
 use Rattle.text.specs.Fold.{foldOf, valueOf, fold-step}
@@ -124,3 +124,7 @@ module _ (t : List ℕ) (from radix : ℕ) {k at : ℕ} {x : Folded} (inv : Take
 pub taken-none : (t : List ℕ) (from radix : ℕ) {x : Folded} → from ≤ length t → x ≡ foldOf 0 → Taken t from 0 radix x from
 unfolding natFrom
 taken-none t from radix h e = record { folded = e; rest = refl; within = h }
+
+-- ---- what was read, with these bytes as its digits. The sign plays no part in the raw
+abbrev pub asWritten : List ℕ → ℕ → ℕ → Bool → ℕ → Written
+asWritten t after base down exp = record { neg = false; digits = bodyOf t; after = after; base = base; down = down; exp = exp }
