@@ -37,7 +37,7 @@ unfolding rawOf
 same-fraction r₁ r₂ f x y g h e = nearest-same (num r₁ x * 2 ^ f) (den r₁ x) (num r₂ y * 2 ^ f) (den r₂ y) g h (omega (arith, ap (λ (m : ℕ). m * 2 ^ f) e))
 
 -- ---- a zero more after the point: the digits and radix^after are both multiplied by the radix
-natFrom-snoc : (radix : ℕ) (ds : List ℕ) (d n : ℕ) → natFrom radix (ds ++ (d ∷ [])) n ≡ natFrom radix ds n * radix + d
+pub natFrom-snoc : (radix : ℕ) (ds : List ℕ) (d n : ℕ) → natFrom radix (ds ++ (d ∷ [])) n ≡ natFrom radix ds n * radix + d
 unfolding natFrom
 natFrom-snoc radix [] d n = refl
 natFrom-snoc radix (c ∷ ds) d n = natFrom-snoc radix ds d (n * radix + c)
@@ -121,7 +121,7 @@ huge-under radix f n x r b t h l =
     below-half radix f x (rw t (omega (arith, pow-pos f)))
 
 -- ---- past every format: strict refuses with 10
-limit-word : (s : Sign) (w : ℕ) (neg : Bool) → w ≤ 64 → limit s w neg < 2 ^ 64
+pub limit-word : (s : Sign) (w : ℕ) (neg : Bool) → w ≤ 64 → limit s w neg < 2 ^ 64
 unfolding limit
 limit-word signed w true h = omega (arith, half-word w h)
 limit-word signed w false h = omega (arith, half-word w h)
