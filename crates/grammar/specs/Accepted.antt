@@ -22,6 +22,12 @@ ExpIs exponent nothing down e = e ≡ 0
 ExpIs exponent sign down e = e ≡ 0
 ExpIs exponent digit down e = e ≤ expLimit down
 
+-- what a decimal exponent scales by: 10, and there is none without a mark
+abbrev pub TenIs : Part → ℕ → ℕ → Type 0
+TenIs whole base e = e ≡ 0
+TenIs fraction base e = e ≡ 0
+TenIs exponent base e = base ≡ 10
+
 -- A number of the radix: its digits are below the radix, no more of them stand after the point than there are, what the exponent scales by is
 -- the radix or 2 (1 if there is no mark), and the exponent is in its range.
 pub record Sound (radix : ℕ) (p : Part) (q : Seen) (x : Written) : Type 0 where
@@ -29,6 +35,7 @@ pub record Sound (radix : ℕ) (p : Part) (q : Seen) (x : Written) : Type 0 wher
   pub within : x .after ≤ length (x .digits)
   pub base-is : (x .base ≡ 1) ⊎ (x .base ≡ 2) ⊎ (x .base ≡ radix)
   pub exp-is : ExpIs p q (x .down) (x .exp)
+  pub ten-is : radix ≡ 10 → TenIs p (x .base) (x .exp)
 
 pub data Ends (radix : ℕ) : Scan → Type 0 where
   ends-at : {p : Part} {q : Seen} {x : Written} → Sound radix p q x → Ends radix (at p q x)
@@ -39,13 +46,23 @@ by-test : {A : Type 0} (P : A → Type 0) (t : Bool) {a b : A} → (t ≡ true �
 by-test P true f g = f refl
 by-test P false f g = g refl
 
+-- no mark of radix 10 scales by 2
+ten-base : (radix b : ℕ) → radix ≡ 10 → isMark radix b ≡ true → baseOf radix b ≡ 10
+unfolding isMark
+ten-base radix b r m = go (eqb b 112) (eqb b 80) refl refl
+  where
+    go : (g h : Bool) → eqb b 112 ≡ g → eqb b 80 ≡ h → cond (g || h) 2 radix ≡ 10
+    go true h e f = absurd (false≢true ((rw (r, eqb-true b 112 e) at m)))
+    go false true e f = absurd (false≢true ((rw (r, eqb-true b 80 f) at m)))
+    go false false e f = r
+
 module _ (radix : ℕ) where
   stop : (n : ℕ) → T (leb 11 n) → T (leb n 19) → Ends radix (refuse n)
   stop n l h = ends-not (leb→le 11 n l) (leb→le n 19 h)
 
   sound-blank : (neg : Bool) (q : Seen) → Sound radix whole q (blank neg)
   unfolding ExpIs
-  sound-blank neg q = record { below = λ d m. absurd (List·Memᴰ·not-nil m); within = omega arith; base-is = inl refl; exp-is = refl }
+  sound-blank neg q = record { below = λ d m. absurd (List·Memᴰ·not-nil m); within = omega arith; base-is = inl refl; exp-is = refl; ten-is = λ r. refl }
 
   -- one more digit of the number
   sound-digit : (p : Part) (x : Written) (d places : ℕ) (q : Seen) → d < radix → places ≤ 1 → Sound radix p q x → ExpIs p digit (x .down) (x .exp)
@@ -56,6 +73,7 @@ module _ (radix : ℕ) where
         within = omega (arith, length-append (x .digits) (d ∷ []), s .within);
         base-is = s .base-is;
         exp-is = e;
+        ten-is = s .ten-is;
       }
     where
       pick : (c : ℕ) → List·Memᴰ c (x .digits) ⊎ List·Memᴰ c (d ∷ []) → c < radix
@@ -68,13 +86,13 @@ module _ (radix : ℕ) where
   on-sign minus whole sign x s = stop 12 tt tt
   on-sign minus whole digit x s = stop 12 tt tt
   on-sign minus fraction q x s = stop 12 tt tt
-  on-sign minus exponent nothing x s = ends-at (record { below = s .below; within = s .within; base-is = s .base-is; exp-is = s .exp-is })
+  on-sign minus exponent nothing x s = ends-at (record { below = s .below; within = s .within; base-is = s .base-is; exp-is = s .exp-is; ten-is = s .ten-is })
   on-sign minus exponent sign x s = stop 12 tt tt
   on-sign minus exponent digit x s = stop 12 tt tt
 
   on-point : (p : Part) (q : Seen) (x : Written) → Sound radix p q x → Ends radix (onPoint p x)
   unfolding onPoint ExpIs
-  on-point whole q x s = ends-at (record { below = s .below; within = s .within; base-is = s .base-is; exp-is = s .exp-is })
+  on-point whole q x s = ends-at (record { below = s .below; within = s .within; base-is = s .base-is; exp-is = s .exp-is; ten-is = s .ten-is })
   on-point fraction q x s = stop 15 tt tt
   on-point exponent q x s = stop 16 tt tt
 
@@ -90,17 +108,17 @@ module _ (radix : ℕ) where
   on-underscore Skip p sign x s = stop 14 tt tt
   on-underscore Skip p digit x s = ends-at s
 
-  on-mark : (b : ℕ) (p : Part) (q : Seen) (x : Written) → Sound radix p q x → Ends radix (onMark (baseOf radix b) p x)
+  on-mark : (b : ℕ) (p : Part) (q : Seen) (x : Written) → isMark radix b ≡ true → Sound radix p q x → Ends radix (onMark (baseOf radix b) p x)
   unfolding onMark ExpIs
-  on-mark b whole q x s = ends-at (record { below = s .below; within = s .within; base-is = by-test (λ (v : ℕ). (v ≡ 1) ⊎ (v ≡ 2) ⊎ (v ≡ radix)) (isBitMark b) (λ t. inr (inl refl)) (λ t. inr (inr refl)); exp-is = s .exp-is })
-  on-mark b fraction q x s = ends-at (record { below = s .below; within = s .within; base-is = by-test (λ (v : ℕ). (v ≡ 1) ⊎ (v ≡ 2) ⊎ (v ≡ radix)) (isBitMark b) (λ t. inr (inl refl)) (λ t. inr (inr refl)); exp-is = s .exp-is })
-  on-mark b exponent q x s = stop 18 tt tt
+  on-mark b whole q x m s = ends-at (record { below = s .below; within = s .within; base-is = by-test (λ (v : ℕ). (v ≡ 1) ⊎ (v ≡ 2) ⊎ (v ≡ radix)) (isBitMark b) (λ t. inr (inl refl)) (λ t. inr (inr refl)); exp-is = s .exp-is; ten-is = λ r. ten-base radix b r m })
+  on-mark b fraction q x m s = ends-at (record { below = s .below; within = s .within; base-is = by-test (λ (v : ℕ). (v ≡ 1) ⊎ (v ≡ 2) ⊎ (v ≡ radix)) (isBitMark b) (λ t. inr (inl refl)) (λ t. inr (inr refl)); exp-is = s .exp-is; ten-is = λ r. ten-base radix b r m })
+  on-mark b exponent q x m s = stop 18 tt tt
 
   on-exp-digit : (d : ℕ) (q : Seen) (x : Written) → Sound radix exponent q x → Ends radix (onExpDigit d x)
   unfolding onExpDigit ExpIs
   on-exp-digit d q x s =
       by-test (Ends radix) (leb (x .exp * 10 + d) (expLimit (x .down)))
-      (λ t. ends-at (record { below = s .below; within = s .within; base-is = s .base-is; exp-is = leb-true _ _ t }))
+      (λ t. ends-at (record { below = s .below; within = s .within; base-is = s .base-is; exp-is = leb-true _ _ t; ten-is = s .ten-is }))
       (λ t. stop 19 tt tt)
 
   on-other : (b : ℕ) (p : Part) (q : Seen) (x : Written) → Sound radix p q x → Ends radix (onOther radix b p x)
@@ -115,7 +133,7 @@ module _ (radix : ℕ) where
       by-test (Ends radix) (isSign b) (λ t. on-sign (eqb b 45) p q x s) (λ t.
       by-test (Ends radix) (eqb b 46) (λ t. on-point p q x s) (λ t.
       by-test (Ends radix) (eqb b 95) (λ t. on-underscore k p q x s) (λ t.
-      by-test (Ends radix) (isMark radix b) (λ t. on-mark b p q x s) (λ t. on-other b p q x s))))
+      by-test (Ends radix) (isMark radix b) (λ t. on-mark b p q x t s) (λ t. on-other b p q x s))))
 
   on-bytes : (k : Sep) (t : List ℕ) {r : Scan} → Ends radix r → Ends radix (scan k radix t r)
   unfolding scan
