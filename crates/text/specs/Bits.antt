@@ -1,38 +1,28 @@
--- Reading in a radix that is a power of two. The digits are cut at a bit: the whole number in front of the cut, and what the bits behind it
--- say of one half. Assumes nothing.
-use mathlib.Core.Path.{_≡_, refl, sym, ap, ap₂, _∙_, subst}
-use mathlib.Core.Logic.{_⊎_}
-use mathlib.Core.Bool.{Bool, true, false, cond}
+-- Reading in a radix that is a power of two: what the exponent scales by is one as well, so the raw is the digits, shifted and rounded.
+-- Assumes nothing.
+use mathlib.Core.Path.{_≡_, sym, ap, ap₂, _∙_, subst}
+use mathlib.Core.Logic.{_⊎_, inl, inr}
+use mathlib.Core.Bool.{Bool, true, false}
 use mathlib.Core.List.{List, List·Memᴰ}
-use Prim.Native.Nat.{ℕ, zero, suc, _+_, _-_, _*_, _/_, _%_, _^_, _≤_, _<_}
-use native.Mathlib.Nat.{div-add-mod', mod-lt, mul-le-mul-right, pow-suc, pow-zero, mul-pos}
-use native.Mathlib.Numerals.{add-one}
+use Prim.Native.Nat.{ℕ, zero, suc, _+_, _-_, _*_, _^_, _≤_, _<_}
+use native.Mathlib.Nat.{mul-le-mul}
 use native.Mathlib.Omega.{arith}
-use lib.Dec.{ltb}
-use lib.ListN.{length, take, drop, getD, length-drop}
-use lib.Seq.{getD-drop, drop-drop, take-all}
-use lib.Pow.{pow-add, pow-pos, pow-mono}
-use borrow.Author.Tests.{ltb-true, ltb-false}
-use Rattle.laws.specs.Nearest.{nearestEven, nearest-none, nearest-exact, nearest-scale}
+use lib.ListN.{length, take}
+use lib.Seq.{take-all}
+use lib.Pow.{pow-add, pow-pos}
+use Rattle.laws.specs.Nearest.{nearestEven, nearest-exact, nearest-scale}
 use Rattle.grammar.specs.Meaning.{natOf, num, den, rawOf, textLimit}
-use Rattle.grammar.specs.Rounding.{natOf-below}
 use Rattle.text.specs.declared.fold.Folded.{Folded}
 use Rattle.text.specs.declared.fold.Order.{Order}
-use Rattle.text.specs.declared.fold.Order.the-variants.{Less, Same, More}
-use Rattle.text.specs.Round.{orderOf, roundBy, order-less, order-more, order-same, nearest-middle}
-use Rattle.text.specs.Fold.{foldOf, valueOf, fold-step, fold-times, fold-round}
-use Rattle.text.specs.Body.{bodyOf, digitsFrom, anyOf, asWritten, Next, Taken}
-use Rattle.text.specs.Numbers.{nat-around, any-none, any-some, drop-digits}
+use Rattle.text.specs.Fold.{foldOf, valueOf, fold-times}
+use Rattle.grammar.specs.Found.{bodyOf}
+use Rattle.text.specs.Body.{asWritten, Taken}
+use Rattle.text.specs.Cut.{numberOf, Digits, pow-pow, parts}
+use Rattle.text.specs.Numbers.{body-short}
 
--- the digits of a text as a number of `width` bits each
-abbrev pub numberOf : List ℕ → ℕ → ℕ
-numberOf t width = natOf (2 ^ width) (bodyOf t)
-
-pub record Digits (t : List ℕ) (n width : ℕ) : Type 0 where
-  pub count : n ≡ length (bodyOf t)
-  pub some : 0 < width
-  pub small : width ≤ 4
-  pub below : (d : ℕ) → List·Memᴰ d (bodyOf t) → d < 2 ^ width
+-- what a radix is here, and what an exponent scales by
+abbrev pub Power : ℕ → Type 0
+Power p = (p ≡ 1) ⊎ (p ≡ 2) ⊎ (p ≡ 8) ⊎ (p ≡ 16)
 
 -- what the reader hands over: a text that the scan accepted
 pub record Legal (t : List ℕ) (n after radix base exp frac : ℕ) : Type 0 where
@@ -44,122 +34,6 @@ pub record Legal (t : List ℕ) (n after radix base exp frac : ℕ) : Type 0 whe
   pub below : (d : ℕ) → List·Memᴰ d (bodyOf t) → d < radix
   pub small : exp ≤ 2 ^ 31
   pub room : frac ≤ 64
-
--- the bits t of a digit against one half of them; where they are one half, the digits after it decide
-unfoldable pub cutOf : ℕ → ℕ → Bool → Order
-cutOf t half rest = cond (ltb t half) Less (cond (ltb half t) More (cond rest More Same))
-
--- ---- n is the whole number q and, below it, t and r: (q * c + t) * p + r, with c twice a half, t below c and r below p
-module _ (q t r c p half : ℕ) (two : c ≡ half * 2) (below : t < c) (rest : r < p) where
-  cut-order : {any : Bool} → (any ≡ true → 0 < r) → (any ≡ false → r ≡ 0) → cutOf t half any ≡ orderOf (((q * c + t) * p + r) * 2) ((q * 2 + 1) * (p * c))
-  unfolding cutOf
-  cut-order {any} some none = go (ltb t half) (ltb half t) any refl refl refl
-    where
-      whole : p * c ≡ half * p * 2
-      whole = ap (λ (k : ℕ). p * k) two ∙ omega arith
-
-      go : (a b z : Bool) → ltb t half ≡ a → ltb half t ≡ b → any ≡ z → cond a Less (cond b More (cond z More Same)) ≡ orderOf (((q * c + t) * p + r) * 2) ((q * 2 + 1) * (p * c))
-      go true b z e f g =
-          let less : suc t * p ≤ half * p = mul-le-mul-right p (ltb-true t half e) in
-          sym (order-less (((q * c + t) * p + r) * 2) ((q * 2 + 1) * (p * c)) (omega (arith, whole)))
-      go false true z e f g =
-          let more : suc half * p ≤ t * p = mul-le-mul-right p (ltb-true half t f) in
-          sym (order-more (((q * c + t) * p + r) * 2) ((q * 2 + 1) * (p * c)) (omega (arith, whole)))
-      go false false true e f g =
-          let same : t ≡ half = omega (arith, ltb-false t half e, ltb-false half t f) in
-          sym (order-more (((q * c + t) * p + r) * 2) ((q * 2 + 1) * (p * c)) (omega (arith, whole, some g, ap (λ (k : ℕ). k * p) same)))
-      go false false false e f g =
-          let same : t ≡ half = omega (arith, ltb-false t half e, ltb-false half t f) in
-          sym (order-same (((q * c + t) * p + r) * 2) ((q * 2 + 1) * (p * c)) (omega (arith, whole, none g, ap (λ (k : ℕ). k * p) same)))
-
-  pub cut-nearest : {any : Bool} → (any ≡ true → 0 < r) → (any ≡ false → r ≡ 0) → nearestEven ((q * c + t) * p + r) (p * c) ≡ roundBy (cutOf t half any) q
-  cut-nearest {any} some none =
-      let n = (q * c + t) * p + r in
-      let most : suc t * p ≤ c * p = mul-le-mul-right p below in
-      nearest-middle n (p * c) q (mul-pos (omega arith) (omega arith)) (omega arith) (omega arith) ∙ ap (λ (o : Order). roundBy o q) (sym (cut-order some none))
-
--- ---- powers of two
-pub pow-pow : (b k : ℕ) → (2 ^ b) ^ k ≡ 2 ^ (b * k)
-pow-pow b zero = let none : 0 ≡ b * 0 = omega arith in pow-zero (2 ^ b) ∙ ap (λ (n : ℕ). 2 ^ n) none
-pow-pow b (suc k) =
-    pow-suc (2 ^ b) k ∙ ap (λ (n : ℕ). n * 2 ^ b) (pow-pow b k) ∙ sym (pow-add 2 (b * k) b) ∙ ap (λ (n : ℕ). 2 ^ n) (omega arith)
-
-halves : (c : ℕ) → 1 ≤ c → 2 ^ c ≡ 2 ^ (c - 1) * 2
-halves c h = ap (λ (n : ℕ). 2 ^ n) (omega arith) ∙ pow-suc 2 (c - 1)
-
-parts : (a b c : ℕ) → a + b ≡ c → 2 ^ c ≡ 2 ^ a * 2 ^ b
-parts a b c e = ap (λ (n : ℕ). 2 ^ n) (sym e) ∙ pow-add 2 a b
-
--- ---- the cut in the digit number `count`, with c of its bits behind it: the digits in front of that digit, the digit, and those behind it
-abbrev pub digitAt : List ℕ → ℕ → ℕ
-digitAt t count = getD (bodyOf t) count 0
-
-abbrev front : List ℕ → ℕ → ℕ → ℕ
-front t width count = natOf (2 ^ width) (take count (bodyOf t))
-
-abbrev behind : List ℕ → ℕ → ℕ → ℕ
-behind t width count = natOf (2 ^ width) (drop (suc count) (bodyOf t))
-
--- the whole number in front of the cut
-unfoldable pub cutWhole : List ℕ → ℕ → ℕ → ℕ → ℕ
-cutWhole t width count c = front t width count * 2 ^ (width - c) + digitAt t count / 2 ^ c
-
-module _ (t : List ℕ) (n width count c : ℕ) (digits : Digits t n width) (inside : count < n) (one : 1 ≤ c) (most : c ≤ width) where
-  number-is : numberOf t width ≡ (cutWhole t width count c * 2 ^ c + digitAt t count % 2 ^ c) * 2 ^ (width * (n - count - 1)) + behind t width count
-  unfolding cutWhole
-  number-is =
-      let f = front t width count in
-      let d = digitAt t count in
-      let split : 2 ^ width ≡ 2 ^ (width - c) * 2 ^ c = parts (width - c) c width (omega arith) in
-      let left : length (bodyOf t) - count - 1 ≡ n - count - 1 = omega (arith, digits .count) in
-      let here : f * 2 ^ width + d ≡ (f * 2 ^ (width - c) + d / 2 ^ c) * 2 ^ c + d % 2 ^ c = omega (arith, ap (λ (k : ℕ). f * k) split, div-add-mod' d (2 ^ c)) in
-      nat-around (2 ^ width) (bodyOf t) count (omega (arith, digits .count))
-      ∙ ap (λ (p : ℕ). (f * 2 ^ width + d) * p + behind t width count) (pow-pow width (length (bodyOf t) - count - 1) ∙ ap (λ (k : ℕ). 2 ^ (width * k)) left)
-      ∙ ap (λ (m : ℕ). m * 2 ^ (width * (n - count - 1)) + behind t width count) here
-
-  behind-lt : behind t width count < 2 ^ (width * (n - count - 1))
-  behind-lt =
-      let size : length (drop (suc count) (bodyOf t)) ≡ n - count - 1 = length-drop (suc count) (bodyOf t) ∙ omega (arith, digits .count) in
-      subst (λ (m : ℕ). behind t width count < m) (pow-pow width (length (drop (suc count) (bodyOf t))) ∙ ap (λ (k : ℕ). 2 ^ (width * k)) size)
-      (natOf-below (2 ^ width) (drop (suc count) (bodyOf t)) (drop-digits (suc count) (digits .below)))
-
-  cut-is : {any : Bool} → any ≡ anyOf (drop (suc count) (bodyOf t))
-      → nearestEven (numberOf t width) (2 ^ (width * (n - count - 1) + c)) ≡ roundBy (cutOf (digitAt t count % 2 ^ c) (2 ^ (c - 1)) any) (cutWhole t width count c)
-  cut-is {any} e =
-      ap₂ nearestEven number-is (pow-add 2 (width * (n - count - 1)) c)
-      ∙ cut-nearest (cutWhole t width count c) (digitAt t count % 2 ^ c) (behind t width count) (2 ^ c) (2 ^ (width * (n - count - 1))) (2 ^ (c - 1))
-      (halves c one) (mod-lt (digitAt t count) (pow-pos c)) behind-lt
-      (λ a. any-some (2 ^ width) (drop (suc count) (bodyOf t)) (pow-pos width) (sym e ∙ a))
-      (λ a. any-none (2 ^ width) (drop (suc count) (bodyOf t)) (sym e ∙ a))
-
-  -- the same as the code finds it: x the digits in front, d the digit, y the whole number in front of the cut
-  pub cut-done :
-      {x y r : Folded} {at d next : ℕ} {any : Bool} {how : Order} → Taken t 0 count (2 ^ width) x at → Next t at d next → any ≡ anyOf (digitsFrom t next)
-      → y ≡ foldOf (valueOf x * 2 ^ (width - c) + d / 2 ^ c) → how ≡ cutOf (d % 2 ^ c) (2 ^ (c - 1)) any → r ≡ foldOf (roundBy how (valueOf y))
-      → r ≡ foldOf (nearestEven (numberOf t width) (2 ^ (width * (n - count - 1) + c)))
-  unfolding cutWhole
-  cut-done {x} {y} {r} {at} {d} {next} {any} {how} head digit rest whole by end =
-      let is-digit : d ≡ digitAt t count = digit .first ∙ ap (λ (l : List ℕ). getD l 0 0) (head .rest) ∙ getD-drop count (bodyOf t) 0 0 ∙ ap (λ (j : ℕ). getD (bodyOf t) j 0) (omega arith) in
-      let is-rest : any ≡ anyOf (drop (suc count) (bodyOf t)) =
-      rest ∙ ap anyOf (digit .rest ∙ ap (drop 1) (head .rest) ∙ drop-drop 1 count (bodyOf t) ∙ ap (λ (j : ℕ). drop j (bodyOf t)) (add-one count)) in
-      let is-whole : y ≡ foldOf (cutWhole t width count c) =
-      whole ∙ ap₂ (λ (z : Folded) (v : ℕ). foldOf (valueOf z * 2 ^ (width - c) + v / 2 ^ c)) (head .folded) is-digit
-      ∙ fold-step (front t width count) (2 ^ (width - c)) (digitAt t count / 2 ^ c) (pow-pos (width - c)) in
-      let is-how : how ≡ cutOf (digitAt t count % 2 ^ c) (2 ^ (c - 1)) any = by ∙ ap (λ (v : ℕ). cutOf (v % 2 ^ c) (2 ^ (c - 1)) any) is-digit in
-      end ∙ ap₂ (λ (o : Order) (z : Folded). foldOf (roundBy o (valueOf z))) is-how is-whole
-      ∙ fold-round (cutWhole t width count c) (cutOf (digitAt t count % 2 ^ c) (2 ^ (c - 1)) any)
-      ∙ ap foldOf (sym (cut-is is-rest))
-
--- ---- fewer digits than are behind the cut: the number is below one half
-pub cut-away : (t : List ℕ) (n width s low : ℕ) → Digits t n width → 0 < s → low ≡ (s - 1) / width → n ≤ low → nearestEven (numberOf t width) (2 ^ s) ≡ 0
-cut-away t n width s low digits some e far =
-    let size : numberOf t width < 2 ^ (width * n) =
-    subst (λ (m : ℕ). numberOf t width < m) (pow-pow width (length (bodyOf t)) ∙ ap (λ (k : ℕ). 2 ^ (width * k)) (sym (digits .count)))
-    (natOf-below (2 ^ width) (bodyOf t) (digits .below)) in
-    let fewer : n * width ≤ low * width = mul-le-mul-right width far in
-    let most : low * width + 1 ≤ s = omega (arith, div-add-mod' (s - 1) width, ap (λ (k : ℕ). k * width) e) in
-    let up : 2 ^ (width * n + 1) ≤ 2 ^ s = pow-mono {i = width * n + 1} {j = s} (omega arith) in
-    nearest-none (numberOf t width) (2 ^ s) (omega (arith, pow-add 2 (width * n) 1))
 
 -- ---- no digit is cut, or one is
 module _ (t : List ℕ) (n width up down : ℕ) (digits : Digits t n width) where
@@ -187,16 +61,67 @@ module _ (t : List ℕ) (after radix base exp f width bits : ℕ) (r : radix ≡
   scale : base ^ exp ≡ 2 ^ (bits * exp)
   scale = ap (λ (k : ℕ). k ^ exp) b ∙ pow-pow bits exp
 
-  pub raw-down : rawOf radix f (asWritten t after base true exp) ≡ nearestEven (numberOf t width * 2 ^ f) (2 ^ (width * after + bits * exp))
+  raw-down : rawOf radix f (asWritten t after base true exp) ≡ nearestEven (numberOf t width * 2 ^ f) (2 ^ (width * after + bits * exp))
   unfolding rawOf num den
   raw-down =
       let up : natOf radix (bodyOf t) * 1 * 2 ^ f ≡ numberOf t width * 2 ^ f = ap (λ (k : ℕ). natOf k (bodyOf t) * 1 * 2 ^ f) r ∙ omega arith in
       ap₂ nearestEven up (ap₂ (λ (x y : ℕ). x * y) places scale ∙ sym (pow-add 2 (width * after) (bits * exp)))
 
-  pub raw-up : rawOf radix f (asWritten t after base false exp) ≡ nearestEven (numberOf t width * 2 ^ (f + bits * exp)) (2 ^ (width * after))
+  raw-up : rawOf radix f (asWritten t after base false exp) ≡ nearestEven (numberOf t width * 2 ^ (f + bits * exp)) (2 ^ (width * after))
   unfolding rawOf num den
   raw-up =
       let up : natOf radix (bodyOf t) * base ^ exp * 2 ^ f ≡ numberOf t width * 2 ^ (f + bits * exp) =
       ap₂ (λ (k m : ℕ). natOf k (bodyOf t) * m * 2 ^ f) r scale ∙ omega (arith, ap (λ (k : ℕ). numberOf t width * k) (pow-add 2 f (bits * exp))) in
       let dn : radix ^ after * 1 ≡ 2 ^ (width * after) = omega (arith, places) in
       ap₂ nearestEven up dn
+
+  pub down-done : {x : Folded} {down : Bool} → down ≡ true → x ≡ foldOf (nearestEven (numberOf t width * 2 ^ f) (2 ^ (width * after + bits * exp)))
+      → x ≡ foldOf (rawOf radix f (asWritten t after base down exp))
+  down-done e q = rw e (q ∙ ap foldOf (sym raw-down))
+
+  pub up-done : {x : Folded} {down : Bool} → down ≡ false → x ≡ foldOf (nearestEven (numberOf t width * 2 ^ (f + bits * exp)) (2 ^ (width * after)))
+      → x ≡ foldOf (rawOf radix f (asWritten t after base down exp))
+  up-done e q = rw e (q ∙ ap foldOf (sym raw-up))
+
+-- ---- what the code asks on the way
+pub last-power : {p : ℕ} → Power p → (p ≡ 1 → ⊥) → (p ≡ 2 → ⊥) → (p ≡ 8 → ⊥) → p ≡ 16
+last-power (inl e) f g h = absurd (f e)
+last-power (inr (inl e)) f g h = absurd (g e)
+last-power (inr (inr (inl e))) f g h = absurd (h e)
+last-power (inr (inr (inr e))) f g h = e
+
+module _ {t : List ℕ} {n after radix base exp frac : ℕ} (legal : Legal t n after radix base exp frac) where
+  pub radix-power : Power radix
+  radix-power = inr (legal .radix-is)
+
+  pub base-power : Power base
+  base-power = go (legal .base-is)
+    where
+      go : (base ≡ 1) ⊎ (base ≡ 2) ⊎ (base ≡ radix) → Power base
+      go (inl e) = inl e
+      go (inr (inl e)) = inr (inl e)
+      go (inr (inr e)) = subst Power (sym e) radix-power
+
+  pub legal-digits : {width : ℕ} → (radix ≡ 2 ^ width) × (width ≤ 4) → Digits t n width
+  legal-digits {width} w =
+      record {
+        count = legal .count;
+        some = go width (w .0) (legal .radix-is);
+        small = w .1;
+        below = λ d m. subst (λ (r : ℕ). d < r) (w .0) (legal .below d m);
+      }
+    where
+      go : (k : ℕ) → radix ≡ 2 ^ k → (radix ≡ 2) ⊎ (radix ≡ 8) ⊎ (radix ≡ 16) → 0 < k
+      go zero e (inl r) = absurd (omega arith)
+      go zero e (inr (inl r)) = absurd (omega arith)
+      go zero e (inr (inr r)) = absurd (omega arith)
+      go (suc k) e r = omega arith
+
+  -- no sum of bits comes near a word
+  pub places-small : {width : ℕ} → width ≤ 4 → width * after ≤ 4 * textLimit
+  places-small h =
+      let few : after ≤ textLimit = omega (arith, legal .within, legal .count, legal .short, body-short t) in
+      mul-le-mul h few
+
+  pub step-small : {bits : ℕ} → bits ≤ 4 → bits * exp ≤ 4 * 2 ^ 31
+  step-small h = mul-le-mul h (legal .small)

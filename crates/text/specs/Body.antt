@@ -10,6 +10,7 @@ use lib.ListN.{length, take, drop, getD, drop-of-length-le}
 use lib.Seq.{drop-cons, take-suc, getD-drop, drop-drop}
 use borrow.Author.Tests.{eq-eqb, ne-eqb, ltb-true, ltb-false}
 use Rattle.grammar.specs.Meaning.{Written, digitOf, natFrom, natOf}
+use Rattle.grammar.specs.Found.{bodyOf}
 use Rattle.grammar.specs.Rounding.{natFrom-snoc}
 use Rattle.text.specs.declared.fold.Folded.{Folded}
 use Rattle.text.specs.Fold.{foldOf, valueOf, fold-step}
@@ -17,10 +18,6 @@ use Rattle.text.specs.Fold.{foldOf, valueOf, fold-step}
 -- a byte between two digits: `_` or the point
 abbrev pub isGap : ℕ → Bool
 isGap b = eqb b 95 || eqb b 46
-
-unfoldable pub bodyOf : List ℕ → List ℕ
-bodyOf [] = []
-bodyOf (b ∷ t) = cond (isGap b) (bodyOf t) (digitOf b ∷ bodyOf t)
 
 -- the digits from a position on
 abbrev pub digitsFrom : List ℕ → ℕ → List ℕ

@@ -101,7 +101,7 @@ module _ (x : Folded) (k : ℕ) (far : 64 ≤ k) where
           le-ltb 0 (x .low) (omega arith) ∙ sym (le-ltb 0 (valueOf x * 2 ^ (k - 64)) (omega (arith, ap (λ (n : ℕ). n * 2 ^ (k - 64)) none)))
 
 -- ---- what is folded stands for the number: the same number, or both are past 2^64 and differ by a whole number of it
-fold-same : (m n t : ℕ) → 2 ^ 64 ≤ n → m ≡ t * 2 ^ 64 + n → foldOf m ≡ foldOf n
+pub fold-same : (m n t : ℕ) → 2 ^ 64 ≤ n → m ≡ t * 2 ^ 64 + n → foldOf m ≡ foldOf n
 unfolding foldOf
 fold-same m n t h e = folded n (ap (λ (k : ℕ). k % 2 ^ 64) e ∙ mul-add-mod-self-right t (2 ^ 64) n) (le-leb (2 ^ 64) m (omega arith) ∙ sym (le-leb (2 ^ 64) n h))
 

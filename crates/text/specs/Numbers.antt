@@ -10,7 +10,8 @@ use lib.ListN.{length, take, drop, getD, take-append-drop, length-drop}
 use lib.Seq.{drop-cons}
 use borrow.Author.Tests.{eqb-true, eqb-false}
 use Rattle.grammar.specs.Meaning.{digitOf, natFrom, natOf}
-use Rattle.text.specs.Body.{isGap, bodyOf, anyOf}
+use Rattle.grammar.specs.Found.{bodyOf}
+use Rattle.text.specs.Body.{isGap, anyOf}
 
 -- ---- what stands in front counts radix^n times
 pub natFrom-from : (radix : ℕ) (ds : List ℕ) (n : ℕ) → natFrom radix ds n ≡ n * radix ^ length ds + natOf radix ds

@@ -2,7 +2,7 @@
 ghost use mathlib.Core.Path.{_≡_};
 ghost use Prim.Native.Nat.{_+_, _*_, _^_, _<_};
 ghost use Rattle.wide.specs.Meaning.{valueOf as wideOf};
-ghost use Rattle.text.specs.Fold.{foldOf, valueOf};
+ghost use Rattle.text.specs.Fold.{foldOf, valueOf, bit};
 ghost use Rattle.text.specs.Round.{roundBy};
 use wide::Wide;
 
@@ -26,6 +26,16 @@ pub fn of(b: u64) -> Folded
         low: b,
         over: false,
     }
+}
+
+// The word above `low`: with it, a format settles the number.
+pub fn high(x: Folded) -> u64
+    ensures { λ r. ⌜ r ≡ bit (x .over) ⌝ }
+{
+    if x.over {
+        return 1;
+    }
+    0
 }
 
 // a * m + d, which two words always hold.

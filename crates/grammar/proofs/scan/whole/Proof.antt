@@ -34,8 +34,7 @@ fraction-requires : tie.Need-fraction-requires
 fraction-requires c κs =
     let a = c .before .before .before .before .before .args in
     let run = c .before .before .before .run-at .ensures in
-    let t = a .text .now in
-    (
+    let t = a .text .now in (
       search needs,
       c .before .before .before .before .before .pre .1,
       record {
