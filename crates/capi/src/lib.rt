@@ -2,4 +2,5 @@
 mod answer;
 pub mod c_filter;
 pub mod c_log10;
+pub mod c_read;
 pub mod c_settle;

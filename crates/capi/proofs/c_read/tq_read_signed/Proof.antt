@@ -1,0 +1,19 @@
+-- `capi::c_read::tq_read_signed` meets its contract: the manner's number stands for the manner. Assumes nothing.
+use borrow.Author.Needs.{needs}
+use Rattle.capi.proofs.c_read.tq_read_signed.Statement.{statement}
+use Rattle.capi.proofs.c_read.tq_read_signed.Tie as tie
+
+manner-requires : tie.Need-manner-requires
+manner-requires c κs = search needs
+
+read-requires : tie.Need-read-requires
+read-requires c κs = search needs
+
+signed-requires : tie.Need-signed-requires
+signed-requires c κs = search needs
+
+returns : tie.Need-returns
+returns c = record { answer = c .before .read .result; copied = c .signed .ensures; meets = cc }
+
+pub tq-read-signed-spec : {M : Type 1} → statement M
+tq-read-signed-spec = tie.close (tie.spec manner-requires read-requires signed-requires returns)
