@@ -2,7 +2,7 @@
 use mathlib.Core.Path.{_≡_, refl, sym, ap, ap₂, _∙_, subst}
 use mathlib.Core.Bool.{Bool, true, false, cond}
 use mathlib.Core.List.{List, [], _∷_, _++_}
-use Prim.Native.Nat.{ℕ, zero, suc, _+_, _-_, _*_, _^_, _≤_, _<_}
+use Prim.Native.Nat.{ℕ, zero, suc, _+_, _-_, _*_, _%_, _^_, _≤_, _<_}
 use native.Mathlib.Nat.{pow-zero, pow-suc, mul-pos, mul-le-mul-right, one-le-pow}
 use native.Mathlib.Numerals.{add-one}
 use native.Mathlib.Decide.{decLe}
@@ -14,8 +14,9 @@ use Rattle.laws.specs.Nearest.{nearestEven}
 use Rattle.grammar.specs.Meaning.{digitOf, natOf, rawOf}
 use Rattle.text.specs.declared.fold.Folded.{Folded}
 use Rattle.text.specs.declared.fold.Order.{Order}
+use Rattle.text.specs.declared.fold.Order.the-variants.{Less, Same, More}
 use Rattle.text.specs.Round.{roundBy}
-use Rattle.text.specs.Fold.{foldOf, valueOf, fold-same, fold-step, fold-again, fold-add, fold-times, fold-round}
+use Rattle.text.specs.Fold.{foldOf, valueOf, fold-same, fold-step, fold-again, fold-add, fold-times, fold-round, round-less, round-same, round-more}
 use Rattle.text.specs.Digits.{Small, small-zeros, small-drop, nat-zeros}
 use Rattle.text.specs.Order.{orderTen}
 use Rattle.text.specs.Prefix.{firstRaw, leadOf, first-rounds, twenty-zeros}
@@ -83,6 +84,21 @@ past-folded ds k z f l e g h =
     ∙ ap (λ (y : Folded). foldOf (valueOf y * 2 ^ f)) (g ∙ ap (λ (x : Folded). foldOf (valueOf x * 10 ^ z)) (e ∙ ap foldOf all) ∙ fold-times n (10 ^ z) (one-le-pow z 10 (omega arith)))
     ∙ fold-times (n * 10 ^ z) (2 ^ f) (pow-pos f)
 
+-- ---- what rounding adds
+unfoldable pub carryOf : Order → ℕ → ℕ
+carryOf Less last = 0
+carryOf Same last = last % 2
+carryOf More last = 1
+
+pub carry-by : (last : ℕ) {how j : Order} {r : ℕ} → how ≡ j → r ≡ carryOf j last → r ≡ carryOf how last
+carry-by last p e = e ∙ ap (λ (o : Order). carryOf o last) (sym p)
+
+carry-round : (how : Order) (x : Folded) {r : Folded} → r ≡ foldOf (valueOf x + carryOf how (x .low)) → r ≡ foldOf (roundBy how (valueOf x))
+unfolding carryOf
+carry-round Less x e = round-less x refl e
+carry-round Same x e = round-same x refl e
+carry-round More x e = round-more x refl e
+
 -- ---- a whole number i and the fraction 0.ds beside it, times 2^f, to the nearest
 abbrev pub besideOf : ℕ → List ℕ → ℕ → ℕ
 besideOf i ds f = nearestEven ((i * 10 ^ length ds + natOf 10 ds) * 2 ^ f) (10 ^ length ds)
@@ -90,9 +106,9 @@ besideOf i ds f = nearestEven ((i * 10 ^ length ds + natOf 10 ds) * 2 ^ f) (10 ^
 module _ (ds : List ℕ) (small : Small ds) (f : ℕ) (few : f ≤ 64) where
   -- the steps of the code
   pub beside-folded : (v q : ℕ) {o : Order} {x y r : Folded} → q ≡ firstRaw f (leadOf 27 ds) → o ≡ orderTen ds ((q * 10 + 5) * 2 ^ (64 - f)) (2 ^ 64)
-      → x ≡ foldOf (v * 2 ^ f) → y ≡ foldOf (valueOf x + q) → r ≡ foldOf (roundBy o (valueOf y)) → r ≡ foldOf (besideOf v ds f)
-  beside-folded v q {o} e g h k l =
-      l
+      → x ≡ foldOf (v * 2 ^ f) → y ≡ foldOf (valueOf x + q) → r ≡ foldOf (valueOf y + carryOf o (y .low)) → r ≡ foldOf (besideOf v ds f)
+  beside-folded v q {o} {y = y} e g h k l =
+      carry-round o y l
       ∙ ap (λ (y : Folded). foldOf (roundBy o (valueOf y))) (k ∙ ap (λ (x : Folded). foldOf (valueOf x + q)) h ∙ fold-add (v * 2 ^ f) q)
       ∙ fold-round (v * 2 ^ f + q) o
       ∙ ap (λ (w : Order). foldOf (roundBy w (v * 2 ^ f + q))) g

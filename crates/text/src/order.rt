@@ -25,13 +25,13 @@ fn sink(start: Wide, zeros: u32) -> Wide
     ensures { λ r. ⌜ valueOf r ≡ sinkOf zeros (valueOf start) (2 ^ 64) ⌝ }
 {
     let mut rest = start;
-    let mut left = zeros;
-    while 0 < left {
+    let mut more = zeros;
+    while 0 < more {
         if 0 < rest.high {
             return Wide { high: 10, low: 0 };
         }
         rest = wide::mul(rest.low, 10);
-        left -= 1;
+        more -= 1;
     }
     rest
 }

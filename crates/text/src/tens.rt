@@ -10,10 +10,11 @@ ghost use Rattle.grammar.specs.Found.{bodyOf};
 ghost use Rattle.text.specs.Body.{digitsFrom};
 ghost use Rattle.text.specs.Digits.{Small};
 ghost use Rattle.text.specs.Point.{decimal};
-ghost use Rattle.text.specs.Tens.{besideOf};
+ghost use Rattle.text.specs.Tens.{besideOf, carryOf};
 use crate::body;
 use crate::fold;
 use crate::fold::Folded;
+use crate::fold::Order;
 use crate::order;
 use crate::prefix;
 
@@ -48,6 +49,17 @@ fn past(body: &[u8], n: usize, zeros: u64, frac: u32) -> Folded
     fold::scaled(lifted(all.number, zeros), frac as u64)
 }
 
+// What rounding adds to a number with this last word, by the side of the middle that what was cut off lies on.
+fn carry(side: Order, last: u64) -> u64
+    ensures { λ r. ⌜ r ≡ carryOf side last ⌝ }
+{
+    match side {
+        Order::Less => 0,
+        Order::Same => last % 2,
+        Order::More => 1,
+    }
+}
+
 // A whole number and a fraction beside it: zeros, and then the digits from a position on. The sum's last bit decides a tie.
 fn beside(body: &[u8], from: usize, count: usize, zeros: u32, whole: Folded, frac: u32) -> Folded
     requires { ⌜ (from ≤ length (now body)) × (count ≡ length (digitsFrom (now body) from)) × Small (digitsFrom (now body) from) × (zeros ≤ 19) × (frac ≤ 64) ⌝ }
@@ -55,7 +67,8 @@ fn beside(body: &[u8], from: usize, count: usize, zeros: u32, whole: Folded, fra
 {
     let q = prefix::first(body, from, zeros, frac);
     let side = order::side(body, from, count, zeros, q, frac);
-    fold::rounded(fold::add(fold::scaled(whole, frac as u64), q), side)
+    let sum = fold::add(fold::scaled(whole, frac as u64), q);
+    fold::add(sum, carry(side, sum.low))
 }
 
 // The last `places` digits stand after the point, with zeros before them where there are fewer.

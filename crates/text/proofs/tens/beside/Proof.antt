@@ -1,10 +1,10 @@
 -- `tens::beside` meets its contract: what the calls promise, one after another, is what `beside-folded` asks for. Assumes nothing.
-use mathlib.Core.Path.{_∙_, sym, subst}
-use Prim.Native.Nat.{ℕ, _^_, _<_}
+use mathlib.Core.Path.{_∙_, sym, ap, subst}
+use Prim.Native.Nat.{ℕ, _+_, _^_, _<_}
 use mathlib.Core.List.{_++_}
 use lib.ListN.{replicate}
 use borrow.Author.Needs.{needs}
-use Rattle.text.specs.Fold.{valueOf}
+use Rattle.text.specs.Fold.{foldOf, valueOf}
 use Rattle.text.specs.Body.{digitsFrom}
 use Rattle.text.specs.Digits.{small-zeros}
 use Rattle.text.specs.Prefix.{leadOf, first-below}
@@ -29,18 +29,30 @@ scaled-requires c κs = search needs
 add-requires : tie.Need-add-requires
 add-requires c κs = search needs
 
-rounded-requires : tie.Need-rounded-requires
-rounded-requires c κs = search needs
+carry-requires : tie.Need-carry-requires
+carry-requires c κs = search needs
+
+add-requires-2 : tie.Need-add-requires-2
+add-requires-2 c κs = search needs
 
 returns : tie.Need-returns
 returns c =
-    let s = c .before .before .before .before .before .before in
+    let first = c .before .before .before .before .before in
+    let sum = c .before .before in
+    let s = first .before .before in
     let ds = digitsFrom (s .args .body .now) (s .args .from) in
     beside-folded (replicate (s .args .zeros) 0 ++ ds) (small-zeros (s .args .zeros) ds (s .pre .2)) (s .args .frac) (s .pre .4) (valueOf (s .args .whole))
-    (c .before .before .before .before .first .result) (c .before .before .before .before .first .ensures) (c .before .before .before .side .ensures)
-    (c .before .before .scaled .ensures) (c .before .add .ensures) (c .rounded .ensures)
+    (first .first .result) (first .first .ensures) (c .before .before .before .before .side .ensures)
+    (c .before .before .before .scaled .ensures) (sum .add .ensures) (c .add2 .ensures ∙ ap (λ (n : ℕ). foldOf (valueOf (sum .add .result) + n)) (c .before .carry .ensures))
 
 pub beside-spec : {M : Type 1} → statement M
 beside-spec =
     tie.close
-    (tie.spec first-requires side-requires scaled-requires add-requires rounded-requires returns)
+    (tie.spec
+    first-requires
+    side-requires
+    scaled-requires
+    add-requires
+    carry-requires
+    add-requires-2
+    returns)
