@@ -39,8 +39,19 @@ enum {
     TQ_DONE = 0,
     TQ_WRONG_WIDTH = 1,    /* the width is not 8, 16, 32 or 64 */
     TQ_WRONG_FRAC = 2,     /* more fraction bits than the width */
+    TQ_WRONG_RADIX = 3,    /* the radix is not 2, 8, 10 or 16 */
+    TQ_TOO_LONG = 4,       /* a text above 4096 bytes */
     TQ_WRONG_LENGTH = 5,   /* a buffer too small, or lists of unequal length */
     TQ_OVERFLOW = 10,      /* the result does not fit; strict manner only */
+    TQ_NO_DIGITS = 11,     /* no digit before the exponent's mark */
+    TQ_MISPLACED_SIGN = 12,
+    TQ_INVALID_DIGIT = 13,
+    TQ_MISPLACED_UNDERSCORE = 14,
+    TQ_TOO_MANY_POINTS = 15,
+    TQ_EXP_INVALID_DIGIT = 16,
+    TQ_EXP_NO_DIGITS = 17, /* a mark with no digit after it */
+    TQ_TOO_MANY_EXP = 18,
+    TQ_EXP_OVERFLOW = 19,  /* the exponent is outside -2^31 to 2^31 - 1 */
     TQ_NOT_POSITIVE = 32,  /* logarithm of zero or of a negative number */
     TQ_WRONG_TAPS = 40     /* taps not 1 to 64 */
 };
@@ -48,6 +59,13 @@ enum {
 /* An exact whole number of steps into a format: the magnitude is high * 2^64 + low, negative unless neg is 0. */
 tq_signed tq_settle_signed(uint32_t neg, uint64_t high, uint64_t low, uint32_t width, uint32_t frac, uint32_t manner);
 tq_unsigned tq_settle_unsigned(uint32_t neg, uint64_t high, uint64_t low, uint32_t width, uint32_t frac, uint32_t manner);
+
+/* The nearest number of the format to the number written, ties to even. The plain reader is told the radix; the literal reader is strict, takes
+ * 0b, 0o and 0x in lower case, and skips _ between digits. docs/GRAMMAR.md says which texts are numbers. */
+tq_signed tq_read_signed(const uint8_t *text, size_t len, uint32_t width, uint32_t frac, uint32_t radix, uint32_t manner);
+tq_unsigned tq_read_unsigned(const uint8_t *text, size_t len, uint32_t width, uint32_t frac, uint32_t radix, uint32_t manner);
+tq_signed tq_literal_signed(const uint8_t *text, size_t len, uint32_t width, uint32_t frac);
+tq_unsigned tq_literal_unsigned(const uint8_t *text, size_t len, uint32_t width, uint32_t frac);
 
 /* The greatest k with 10^k <= raw / 2^frac, as value; TQ_NOT_POSITIVE where there is none. */
 tq_signed tq_log10_signed(int64_t raw, uint32_t width, uint32_t frac);

@@ -1,8 +1,11 @@
 // Document 01's cases as runs. The file `stdout` beside src/ is written from the document, not by this program.
+mod reading;
 mod show;
 
 fn main() {
     manners();
+    reading::plain();
+    reading::literals();
 }
 
 // The cases that the manner alone decides: the number of steps, already rounded, into the format.
