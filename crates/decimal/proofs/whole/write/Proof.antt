@@ -1,0 +1,33 @@
+-- `whole::write` meets its contract: the digits of the whole part. Assumes nothing.
+use mathlib.Core.Path.{_≡_, subst}
+use mathlib.Core.List.{_++_}
+use Prim.Native.Nat.{ℕ, _+_}
+use lib.ListN.{length, drop}
+use Rattle.decimal.specs.Meaning.{wholeText}
+use Rattle.decimal.specs.Layout.{point, places}
+use borrow.Author.Needs.{needs}
+use Rattle.decimal.proofs.whole.write.Statement.{statement}
+use Rattle.decimal.proofs.whole.write.Tie as tie
+use Rattle.decimal.proofs.whole.write.Reads as reads
+use Rattle.decimal.proofs.whole.write.Lts as lts
+use Rattle.decimal.proofs.whole.digits.Reads as digits-reads
+use Rattle.decimal.proofs.whole.part.Reads as part-reads
+
+-- src/whole.rt:16:18
+part-requires : tie.Need-part-requires
+part-requires c κs = search needs
+
+-- src/whole.rt:16:5
+digits-requires : tie.Need-digits-requires
+digits-requires c κs = search needs
+
+-- src/whole.rt:12:1
+returns : tie.Need-returns
+returns c = (
+    let r = c .digits .result in
+    let left = c .digits .last .0 in
+    let text = c .before .before .before .args .text .now in
+    subst (λ (q : ℕ). (r + length (wholeText q) ≡ point) × (drop r left ≡ wholeText q ++ drop point text) × (length left ≡ places)) (c .before .part .ensures) (c .digits .ensures))
+
+pub write-spec : {M : Type 1} → statement M
+write-spec = tie.close (tie.spec part-requires digits-requires returns)

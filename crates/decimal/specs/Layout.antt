@@ -1,0 +1,31 @@
+-- How the code lays a text out, and what it has written of it. Assumes nothing.
+use mathlib.Core.Path.{_≡_}
+use mathlib.Core.Bool.{cond}
+use mathlib.Core.List.{List, [], _∷_, map}
+use Prim.Native.Nat.{ℕ, _+_, _-_, _*_, _^_, _≤_}
+use lib.Dec.{eqb}
+use lib.ListN.{length, take, drop}
+use Rattle.decimal.specs.Meaning.{byteOf, fractionBy}
+
+-- the place of the point, and how many places there are
+abbrev pub point : ℕ
+point = 21
+
+abbrev pub places : ℕ
+places = 86
+
+-- the text stands in its layout from `start` to `end`
+pub record Filled (t text : List ℕ) (start end : ℕ) : Type 0 where
+  pub span : start + length t ≡ end
+  pub inside : end ≤ places
+  pub room : length text ≡ places
+  pub is : take (end - start) (drop start text) ≡ t
+
+-- k more digits are enough for n / m: n times 2^k is a whole number of m
+pub record Ends (k m n : ℕ) : Type 0 where
+  pub times : ℕ
+  pub whole : n * 2 ^ k ≡ times * m
+
+-- the text of a fraction of 64 bits that has at most k digits
+unfoldable pub wordText : ℕ → ℕ → List ℕ
+wordText k n = cond (eqb n 0) [] (46 ∷ map byteOf (fractionBy (2 ^ 64) k n))

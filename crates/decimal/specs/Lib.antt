@@ -1,0 +1,5 @@
+pub mod Meaning
+pub mod Layout
+pub mod Digits
+pub mod Promise
+pub mod Cases
