@@ -3,3 +3,5 @@ pub mod Layout
 pub mod Digits
 pub mod Promise
 pub mod Cases
+pub mod Form
+pub mod Theorems
