@@ -8,21 +8,13 @@ use Rattle.decimal.proofs.Parts.{joined}
 use borrow.Author.Needs.{needs}
 use Rattle.decimal.proofs.fill.Statement.{statement}
 use Rattle.decimal.proofs.fill.Tie as tie
-use Rattle.decimal.proofs.fill.Reads as reads
-use Rattle.decimal.proofs.fill.Lts as lts
-use Rattle.decimal.proofs.fraction.write.Reads as fraction-write-reads
-use Rattle.decimal.proofs.sign.Reads as sign-reads
-use Rattle.decimal.proofs.whole.write.Reads as whole-write-reads
 
--- src/lib.rt:54:9
 write-requires : tie.Need-write-requires
 write-requires c κs = search needs
 
--- src/lib.rt:55:9
 write-requires-2 : tie.Need-write-requires-2
 write-requires-2 c κs = search needs
 
--- src/lib.rt:57:16
 sign-requires : tie.Need-sign-requires
 sign-requires c κs = (
     let w = c .before in
@@ -31,7 +23,6 @@ sign-requires c κs = (
     let small : q < 2 ^ 64 = omega (arith, div-le-self (s .args .magnitude) (2 ^ s .args .frac), s .fits .magnitude .fits) in
     (omega (arith, w .write2 .ensures .0, whole-word q small), omega (arith, w .write2 .ensures .0), w .write2 .ensures .2))
 
--- src/lib.rt:50:1
 returns : tie.Need-returns
 unfolding textOf
 returns c = (

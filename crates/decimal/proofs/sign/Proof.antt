@@ -3,26 +3,19 @@ use Rattle.decimal.proofs.Parts.{sign-minus, sign-none}
 use borrow.Author.Needs.{needs}
 use Rattle.decimal.proofs.sign.Statement.{statement}
 use Rattle.decimal.proofs.sign.Tie as tie
-use Rattle.decimal.proofs.sign.Reads as reads
-use Rattle.decimal.proofs.sign.Lts as lts
 
--- src/lib.rt:68:14
 sub-text : tie.Need-sub-text
 sub-text c = search needs
 
--- src/lib.rt:68:9
 element-write-text : tie.Need-element-write-text
 element-write-text c = search needs
 
--- src/lib.rt:69:16
 sub-result : tie.Need-sub-result
 sub-result c = search needs
 
--- src/lib.rt:69:9
 returns : tie.Need-returns
 returns c = sign-minus (c .before .args .neg) (c .before .args .at) (c .before .args .text .now) (c .before .pre .2) (c .if1 .taken) (c .before .pre .0) (c .before .pre .1)
 
--- src/lib.rt:63:1
 returns-2 : tie.Need-returns-2
 returns-2 c = sign-none (c .before .args .neg) (c .before .args .at) (c .before .args .text .now) (c .before .pre .2) (c .if1 .left)
 

@@ -12,10 +12,6 @@ use Rattle.decimal.proofs.Parts.{word-none, word-some}
 use Rattle.decimal.proofs.Steps.{fraction-step, ends-step, fraction-stop, ends-more}
 use Rattle.decimal.proofs.fraction.digits.Statement.{statement}
 use Rattle.decimal.proofs.fraction.digits.Tie as tie
-use Rattle.decimal.proofs.fraction.digits.Reads as reads
-use Rattle.decimal.proofs.fraction.digits.Lts as lts
-use Rattle.decimal.proofs.byte.Reads as byte-reads
-use Rattle.wide.proofs.mul.Reads as mul-reads
 
 abbrev Inv-loop : tie.InvT-loop
 Inv-loop text₀ fraction frac end₀ rest₀ text end rest =

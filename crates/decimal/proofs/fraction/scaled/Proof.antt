@@ -3,26 +3,19 @@ use Rattle.decimal.proofs.Parts.{scaled-none, scaled-some}
 use borrow.Author.Needs.{needs}
 use Rattle.decimal.proofs.fraction.scaled.Statement.{statement}
 use Rattle.decimal.proofs.fraction.scaled.Tie as tie
-use Rattle.decimal.proofs.fraction.scaled.Reads as reads
-use Rattle.decimal.proofs.fraction.scaled.Lts as lts
 
--- src/fraction.rt:25:9
 returns : tie.Need-returns
 returns c = scaled-none (c .before .args .magnitude) (c .before .args .frac) (c .if1 .taken)
 
--- src/fraction.rt:27:19
 sub-result : tie.Need-sub-result
 sub-result c = search needs
 
--- src/fraction.rt:27:19
 cast-result : tie.Need-cast-result
 cast-result c = search needs
 
--- src/fraction.rt:27:5
 shl-result : tie.Need-shl-result
 shl-result c = search needs
 
--- src/fraction.rt:20:1
 returns-2 : tie.Need-returns-2
 returns-2 c = scaled-some (c .before .args .magnitude) (c .before .args .frac) (c .before .pre)
 

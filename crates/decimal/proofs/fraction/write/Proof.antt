@@ -8,22 +8,15 @@ use Rattle.decimal.proofs.Parts.{scaled-ends, scaled-text}
 use borrow.Author.Needs.{needs}
 use Rattle.decimal.proofs.fraction.write.Statement.{statement}
 use Rattle.decimal.proofs.fraction.write.Tie as tie
-use Rattle.decimal.proofs.fraction.write.Reads as reads
-use Rattle.decimal.proofs.fraction.write.Lts as lts
-use Rattle.decimal.proofs.fraction.digits.Reads as digits-reads
-use Rattle.decimal.proofs.fraction.scaled.Reads as scaled-reads
 
--- src/fraction.rt:16:18
 scaled-requires : tie.Need-scaled-requires
 scaled-requires c κs = search needs
 
--- src/fraction.rt:16:5
 digits-requires : tie.Need-digits-requires
 digits-requires c κs = (
     let s = c .before .before in
     (s .pre .0, s .pre .1, scaled-ends (s .args .magnitude % 2 ^ s .args .frac) (s .args .frac) (s .pre .0) (c .scaled .ensures)))
 
--- src/fraction.rt:12:1
 returns : tie.Need-returns
 returns c = (
     let r = c .digits .result in

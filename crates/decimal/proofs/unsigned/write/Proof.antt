@@ -6,34 +6,25 @@ use Rattle.decimal.proofs.Entry.{frac-word, refuses, writes}
 use borrow.Author.Needs.{needs}
 use Rattle.decimal.proofs.unsigned.write.Statement.{statement}
 use Rattle.decimal.proofs.unsigned.write.Tie as tie
-use Rattle.decimal.proofs.unsigned.write.Reads as reads
-use Rattle.decimal.proofs.unsigned.write.Lts as lts
-use Rattle.decimal.proofs.put.Reads as put-reads
-use Rattle.format.proofs.check.Reads as check-reads
 
--- src/unsigned.rt:10:9
 check-requires : tie.Need-check-requires
 check-requires c κs = search needs
 
--- src/unsigned.rt:12:9
 returns : tie.Need-returns
 returns c = (
     let k = c .before in
     let s = k .before .before in
     refuses (pos (s .args .raw)) (s .args .width) (s .args .frac) (s .args .out .now) (k .check .ensures) (c .if1 .taken))
 
--- src/unsigned.rt:14:5
 put-requires : tie.Need-put-requires
 put-requires c κs = (
     let e = c .before in
     let s = e .before .before .before in
     frac-word (s .args .width) (s .args .frac) (e .before .check .ensures) (e .if1 .left))
 
--- src/unsigned.rt:7:1
 same-length : tie.Need-same-length
 same-length c = search needs
 
--- src/unsigned.rt:7:1
 returns-2 : tie.Need-returns-2
 unfolding rawText
 returns-2 c = (

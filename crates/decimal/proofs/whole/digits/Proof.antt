@@ -11,9 +11,6 @@ use Rattle.decimal.specs.Digits.{whole-text-last, whole-text-more, whole
 use Rattle.decimal.proofs.Steps.{whole-step, whole-stop}
 use Rattle.decimal.proofs.whole.digits.Statement.{statement}
 use Rattle.decimal.proofs.whole.digits.Tie as tie
-use Rattle.decimal.proofs.whole.digits.Reads as reads
-use Rattle.decimal.proofs.whole.digits.Lts as lts
-use Rattle.decimal.proofs.byte.Reads as byte-reads
 
 abbrev Inv-loop : tie.InvT-loop
 Inv-loop text₀ n at₀ rest₀ text at rest =

@@ -6,18 +6,13 @@ use native.Mathlib.Omega.{arith}
 use borrow.Author.Needs.{needs}
 use Rattle.decimal.proofs.whole.part.Statement.{statement}
 use Rattle.decimal.proofs.whole.part.Tie as tie
-use Rattle.decimal.proofs.whole.part.Reads as reads
-use Rattle.decimal.proofs.whole.part.Lts as lts
 
--- src/whole.rt:25:16
 shr-result : tie.Need-shr-result
 shr-result c = search needs
 
--- src/whole.rt:25:9
 returns : tie.Need-returns
 returns c = search needs
 
--- src/whole.rt:20:1
 returns-2 : tie.Need-returns-2
 returns-2 c = (
     let s = c .before in

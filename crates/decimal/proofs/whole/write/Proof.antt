@@ -8,20 +8,13 @@ use Rattle.decimal.specs.Layout.{point, places}
 use borrow.Author.Needs.{needs}
 use Rattle.decimal.proofs.whole.write.Statement.{statement}
 use Rattle.decimal.proofs.whole.write.Tie as tie
-use Rattle.decimal.proofs.whole.write.Reads as reads
-use Rattle.decimal.proofs.whole.write.Lts as lts
-use Rattle.decimal.proofs.whole.digits.Reads as digits-reads
-use Rattle.decimal.proofs.whole.part.Reads as part-reads
 
--- src/whole.rt:16:18
 part-requires : tie.Need-part-requires
 part-requires c κs = search needs
 
--- src/whole.rt:16:5
 digits-requires : tie.Need-digits-requires
 digits-requires c κs = search needs
 
--- src/whole.rt:12:1
 returns : tie.Need-returns
 returns c = (
     let r = c .digits .result in
