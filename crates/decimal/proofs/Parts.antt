@@ -17,7 +17,7 @@ use Rattle.format.specs.declared.UnsignedAnswer.the-variants.{Done, Refused}
 use Rattle.format.specs.Meaning.{Outcome, done, refused, unsignedAnswer}
 use Rattle.decimal.specs.Meaning.{byteOf, minus, fractionBy, fractionDigits, fractionText, put, after, putAnswer, putOver}
 use Rattle.decimal.specs.Digits.{mod-scale, fraction-scale, ends-start, ends-scale}
-use Rattle.decimal.specs.Layout.{point, places, Filled, Ends, wordText}
+use Rattle.decimal.specs.Layout.{point, first, places, Filled, Ends, wordText}
 use Rattle.decimal.proofs.Steps.{before}
 
 -- ---- the sign
@@ -58,18 +58,18 @@ scaled-text n f {x} h e = go (eqb n 0) refl
         rw (ne-eqb x 0 (omega arith), digits)
 
 module _ (f n : ℕ) (text : List ℕ) (l : length text ≡ places) where
-  pub word-none : n ≡ 0 → (_≡_ {A = ℕ} 21 (point + length (wordText f n))) × (21 ≤ places) × (take 21 text ≡ take point text ++ wordText f n) × (length text ≡ places)
+  pub word-none : n ≡ 0 → (_≡_ {A = ℕ} point (point + length (wordText f n))) × (point ≤ places) × (take point text ≡ take point text ++ wordText f n) × (length text ≡ places)
   unfolding wordText
-  word-none e = rw e (refl, omega arith, sym (append-nil (take 21 text)), l)
+  word-none e = rw e (refl, omega arith, sym (append-nil (take point text)), l)
 
   -- the point, and then the digits
-  pub word-some : (end : ℕ) (left : List ℕ) → (n ≡ 0 → ⊥) → f ≤ 64 → end ≤ 22 + f → length left ≡ places
-      → take end left ≡ take 22 (set text 21 46) ++ map byteOf (fractionBy (2 ^ 64) f n)
+  pub word-some : (end : ℕ) (left : List ℕ) → (n ≡ 0 → ⊥) → f ≤ 64 → end ≤ first + f → length left ≡ places
+      → take end left ≡ take first (set text point 46) ++ map byteOf (fractionBy (2 ^ 64) f n)
       → (end ≡ point + length (wordText f n)) × (end ≤ places) × (take end left ≡ take point text ++ wordText f n) × (length left ≡ places)
   unfolding wordText
   word-some end left h b k r e =
       rw (ne-eqb n 0 h) (
-        omega (arith, long, length-take-le end left (omega arith), length-take-le 21 text (omega arith), length-append (take 21 text) (46 ∷ ds)),
+        omega (arith, long, length-take-le end left (omega arith), length-take-le point text (omega arith), length-append (take point text) (46 ∷ ds)),
         omega arith,
         whole,
         r,
@@ -78,10 +78,10 @@ module _ (f n : ℕ) (text : List ℕ) (l : length text ≡ places) where
       ds : List ℕ
       ds = map byteOf (fractionBy (2 ^ 64) f n)
 
-      whole : take end left ≡ take 21 text ++ (46 ∷ map byteOf (fractionBy (2 ^ 64) f n))
-      whole = e ∙ ap (λ (s : List ℕ). s ++ map byteOf (fractionBy (2 ^ 64) f n)) (take-suc-set text 21 46 (omega arith)) ∙ append-assoc (take 21 text) (46 ∷ []) (map byteOf (fractionBy (2 ^ 64) f n))
+      whole : take end left ≡ take point text ++ (46 ∷ map byteOf (fractionBy (2 ^ 64) f n))
+      whole = e ∙ ap (λ (s : List ℕ). s ++ map byteOf (fractionBy (2 ^ 64) f n)) (take-suc-set text point 46 (omega arith)) ∙ append-assoc (take point text) (46 ∷ []) (map byteOf (fractionBy (2 ^ 64) f n))
 
-      long : length (take end left) ≡ length (take 21 text ++ (46 ∷ map byteOf (fractionBy (2 ^ 64) f n)))
+      long : length (take end left) ≡ length (take point text ++ (46 ∷ map byteOf (fractionBy (2 ^ 64) f n)))
       long = ap length whole
 
 -- ---- the parts side by side

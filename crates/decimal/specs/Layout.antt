@@ -7,9 +7,12 @@ use lib.Dec.{eqb}
 use lib.ListN.{length, take, drop}
 use Rattle.decimal.specs.Meaning.{byteOf, fractionBy}
 
--- the place of the point, and how many places there are
+-- the place of the point, the place of the first digit after it, and how many places there are
 abbrev pub point : ℕ
 point = 21
+
+abbrev pub first : ℕ
+first = 22
 
 abbrev pub places : ℕ
 places = 86

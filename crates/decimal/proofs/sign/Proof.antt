@@ -1,6 +1,6 @@
 -- `sign` meets its contract: one byte in front, or none. Assumes nothing.
-use Rattle.decimal.proofs.Parts.{sign-minus, sign-none}
 use borrow.Author.Needs.{needs}
+use Rattle.decimal.proofs.Parts.{sign-minus, sign-none}
 use Rattle.decimal.proofs.sign.Statement.{statement}
 use Rattle.decimal.proofs.sign.Tie as tie
 

@@ -7,7 +7,7 @@ use native.Mathlib.Omega.{arith}
 use lib.Dec.{lit<}
 use lib.ListN.{length, take, set, length-set}
 use Rattle.decimal.specs.Meaning.{byteOf, fractionBy}
-use Rattle.decimal.specs.Layout.{places, Ends}
+use Rattle.decimal.specs.Layout.{point, first, places, Ends}
 use Rattle.decimal.proofs.Parts.{word-none, word-some}
 use Rattle.decimal.proofs.Steps.{fraction-step, ends-step, fraction-stop, ends-more}
 use Rattle.decimal.proofs.fraction.digits.Statement.{statement}
@@ -15,11 +15,11 @@ use Rattle.decimal.proofs.fraction.digits.Tie as tie
 
 abbrev Inv-loop : tie.InvT-loop
 Inv-loop text₀ fraction frac end₀ rest₀ text end rest =
-    (22 ≤ end) × (end ≤ 22 + frac) × (length text ≡ places) × (rest < 2 ^ 64) × Ends (22 + frac - end) (2 ^ 64) rest
-    × (take end text ++ map byteOf (fractionBy (2 ^ 64) (22 + frac - end) rest) ≡ take 22 text₀ ++ map byteOf (fractionBy (2 ^ 64) frac fraction))
+    (first ≤ end) × (end ≤ first + frac) × (length text ≡ places) × (rest < 2 ^ 64) × Ends (first + frac - end) (2 ^ 64) rest
+    × (take end text ++ map byteOf (fractionBy (2 ^ 64) (first + frac - end) rest) ≡ take first text₀ ++ map byteOf (fractionBy (2 ^ 64) frac fraction))
 
 abbrev μ-loop : tie.MeasureT-loop
-μ-loop text₀ fraction frac end₀ rest₀ text end rest = 22 + frac - end
+μ-loop text₀ fraction frac end₀ rest₀ text end rest = first + frac - end
 
 returns : tie.Need-returns Inv-loop μ-loop
 returns c = word-none (c .before .args .frac) (c .before .args .fraction) (c .before .args .text .now) (c .before .pre .1) (c .if1 .taken)
@@ -31,17 +31,17 @@ add-end : tie.Need-add-end Inv-loop μ-loop
 add-end c = omega arith
 
 loop-holds : tie.Need-loop-holds Inv-loop μ-loop
-loop-holds c = (
+loop-holds c =
     let s = c .before in
     let f = s .args .frac in
-    let e : f ≡ 22 + f - 22 = omega arith in (
+    let e : f ≡ first + f - first = omega arith in (
       omega arith,
       omega arith,
-      length-set (s .args .text .now) 21 46 ∙ s .pre .1,
+      length-set (s .args .text .now) point 46 ∙ s .pre .1,
       omega arith,
       subst (λ (k : ℕ). Ends k (2 ^ 64) (s .args .fraction)) e (s .pre .2),
-      ap (λ (k : ℕ). take 22 (set (s .args .text .now) 21 46) ++ map byteOf (fractionBy (2 ^ 64) k (s .args .fraction))) (sym e),
-    ))
+      ap (λ (k : ℕ). take first (set (s .args .text .now) point 46) ++ map byteOf (fractionBy (2 ^ 64) k (s .args .fraction))) (sym e),
+    )
 
 mul-requires : tie.Need-mul-requires Inv-loop μ-loop
 mul-requires c κs = tt
@@ -49,63 +49,52 @@ mul-requires c κs = tt
 byte-requires : tie.Need-byte-requires Inv-loop μ-loop
 byte-requires c κs = omega (arith, c .mul .ensures, c .before .before .loop .inv .3)
 
-element-write-text-2 : tie.Need-element-write-text-2 Inv-loop μ-loop
-element-write-text-2 c = (
+-- in a turn a digit is left to write
+more : (c : tie.After-byte Inv-loop μ-loop) → 0 < first + c .before .before .before .before .before .args .frac - c .before .before .before .loop .end
+more c =
     let m = c .before in
     let l = m .before .before in
     let s = l .before .before in
-    let inv = l .loop .inv in
-    let more = ends-more (2 ^ 64) (22 + s .args .frac - l .loop .end) (l .loop .rest) (inv .3) (m .before .loop-test .taken) (inv .4) in
-    omega (arith, more, s .pre))
+    ends-more (2 ^ 64) (first + s .args .frac - l .loop .end) (l .loop .rest) (l .loop .inv .3) (m .before .loop-test .taken) (l .loop .inv .4)
+
+element-write-text-2 : tie.Need-element-write-text-2 Inv-loop μ-loop
+element-write-text-2 c = omega (arith, more c, c .before .before .before .before .before .pre)
 
 add-end-2 : tie.Need-add-end-2 Inv-loop μ-loop
-add-end-2 c = (
-    let m = c .before in
-    let l = m .before .before in
-    let s = l .before .before in
-    let inv = l .loop .inv in
-    let more = ends-more (2 ^ 64) (22 + s .args .frac - l .loop .end) (l .loop .rest) (inv .3) (m .before .loop-test .taken) (inv .4) in
-    omega (arith, more, s .pre))
+add-end-2 c = omega (arith, more c, c .before .before .before .before .before .pre)
 
 loop-less : tie.Need-loop-less Inv-loop μ-loop
-loop-less c = (
-    let m = c .before in
-    let l = m .before .before in
-    let s = l .before .before in
-    let inv = l .loop .inv in
-    let more = ends-more (2 ^ 64) (22 + s .args .frac - l .loop .end) (l .loop .rest) (inv .3) (m .before .loop-test .taken) (inv .4) in
-    omega (arith, more))
+loop-less c = omega (arith, more c)
 
 loop-again : tie.Need-loop-again Inv-loop μ-loop
-loop-again c = (
+loop-again c =
     let m = c .before in
     let l = m .before .before in
     let s = l .before .before in
     let inv = l .loop .inv in
-    let more = ends-more (2 ^ 64) (22 + s .args .frac - l .loop .end) (l .loop .rest) (inv .3) (m .before .loop-test .taken) (inv .4) in
     let f = s .args .frac in
     let end = l .loop .end in
     let rest = l .loop .rest in
-    let one : 22 + f - end ≡ suc (22 + f - (end + 1)) = omega (arith, more) in
+    let one : first + f - end ≡ suc (first + f - (end + 1)) = omega (arith, more c) in
     let low : m .mul .result .low < 2 ^ 64 = omega arith in
-    let k = 22 + f - (end + 1) in (
+    let k = first + f - (end + 1) in (
       omega (arith, inv .0),
-      omega (arith, more),
+      omega (arith, more c),
       length-set (l .loop .text) end (c .byte .result) ∙ inv .2,
       low,
-      ends-step (2 ^ 64) (22 + f - end) k rest (m .mul .result .high) (m .mul .result .low) (lit< tt) low (m .mul .ensures) one (inv .4),
-      fraction-step (2 ^ 64) (22 + f - end) k rest (m .mul .result .high) (m .mul .result .low) (lit< tt) low (m .mul .ensures) one end (c .byte .result) (l .loop .text)
-          (m .before .loop-test .taken) (omega (arith, more, s .pre, inv .2)) (c .byte .ensures) (inv .5),
-    ))
+      ends-step (2 ^ 64) (first + f - end) k rest (m .mul .result .high) (m .mul .result .low) (lit< tt) low (m .mul .ensures) one (inv .4),
+      fraction-step (2 ^ 64) (first + f - end) k rest (m .mul .result .high) (m .mul .result .low) (lit< tt) low (m .mul .ensures) one end (c .byte .result) (l .loop .text)
+          (m .before .loop-test .taken) (omega (arith, more c, s .pre, inv .2)) (c .byte .ensures) (inv .5),
+    )
 
 returns-2 : tie.Need-returns-2 Inv-loop μ-loop
-returns-2 c = (
+returns-2 c =
     let l = c .before in
     let s = l .before .before in
     let inv = l .loop .inv in
     let f = s .args .frac in
     word-some f (s .args .fraction) (s .args .text .now) (s .pre .1) (l .loop .end) (l .loop .text) (l .before .if1 .left) (s .pre .0) (inv .1) (inv .2)
-    (fraction-stop (2 ^ 64) (22 + f - l .loop .end) (l .loop .rest) (l .loop .end) (l .loop .text) (c .loop-test .left) (inv .5)))
+    (fraction-stop (2 ^ 64) (first + f - l .loop .end) (l .loop .rest) (l .loop .end) (l .loop .text) (c .loop-test .left) (inv .5))
 
 pub digits-spec : {M : Type 1} → statement M
 digits-spec =

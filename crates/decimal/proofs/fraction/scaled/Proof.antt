@@ -1,6 +1,6 @@
 -- `fraction::scaled` meets its contract: the shift drops what is above 2^64, which is the whole part. Assumes nothing.
-use Rattle.decimal.proofs.Parts.{scaled-none, scaled-some}
 use borrow.Author.Needs.{needs}
+use Rattle.decimal.proofs.Parts.{scaled-none, scaled-some}
 use Rattle.decimal.proofs.fraction.scaled.Statement.{statement}
 use Rattle.decimal.proofs.fraction.scaled.Tie as tie
 

@@ -23,9 +23,9 @@ loop-holds : tie.Need-loop-holds Inv-loop μ-loop
 loop-holds c = (omega arith, omega arith, refl, c .pre, omega arith)
 
 sub-at : tie.Need-sub-at Inv-loop μ-loop
-sub-at c = (
+sub-at c =
     let l = c .before in
-    omega (arith, l .loop .inv, whole-text-some (l .loop .rest), whole-word (l .before .args .n) (l .before .fits .n .fits)))
+    omega (arith, l .loop .inv, whole-text-some (l .loop .rest), whole-word (l .before .args .n) (l .before .fits .n .fits))
 
 byte-requires : tie.Need-byte-requires Inv-loop μ-loop
 byte-requires c κs = omega arith
@@ -37,7 +37,7 @@ loop-less : tie.Need-loop-less Inv-loop μ-loop
 loop-less c = omega arith
 
 loop-again : tie.Need-loop-again Inv-loop μ-loop
-loop-again c = (
+loop-again c =
     let l = c .before .before in
     let at = l .loop .at in
     let rest = l .loop .rest in
@@ -51,12 +51,12 @@ loop-again c = (
       whole-step rest at (c .byte .result) (l .loop .text) some (omega (arith, inv)) (inv .2) turn (c .byte .ensures),
       length-set (l .loop .text) (at - 1) (c .byte .result) ∙ inv .3,
       omega (arith, inv),
-    ))
+    )
 
 sub-at-2 : tie.Need-sub-at-2 Inv-loop μ-loop
-sub-at-2 c = (
+sub-at-2 c =
     let l = c .before in
-    omega (arith, l .loop .inv, whole-text-some (l .loop .rest), whole-word (l .before .args .n) (l .before .fits .n .fits)))
+    omega (arith, l .loop .inv, whole-text-some (l .loop .rest), whole-word (l .before .args .n) (l .before .fits .n .fits))
 
 byte-requires-2 : tie.Need-byte-requires-2 Inv-loop μ-loop
 byte-requires-2 c κs = omega arith
@@ -65,7 +65,7 @@ element-write-text-2 : tie.Need-element-write-text-2 Inv-loop μ-loop
 element-write-text-2 c = omega (arith, c .before .before .loop .inv)
 
 returns : tie.Need-returns Inv-loop μ-loop
-returns c = (
+returns c =
     let l = c .before .before in
     let at = l .loop .at in
     let rest = l .loop .rest in
@@ -77,7 +77,7 @@ returns c = (
       omega (arith, inv, one),
       whole-stop rest at (c .byte2 .result) (l .loop .text) some (omega (arith, inv)) (inv .2) last (c .byte2 .ensures),
       length-set (l .loop .text) (at - 1) (c .byte2 .result) ∙ inv .3,
-    ))
+    )
 
 pub digits-spec : {M : Type 1} → statement M
 digits-spec =

@@ -14,10 +14,10 @@ returns : tie.Need-returns
 returns c = search needs
 
 returns-2 : tie.Need-returns-2
-returns-2 c = (
+returns-2 c =
     let s = c .before in
     let e : s .args .frac ≡ 64 = omega (arith, c .if1 .left, s .pre) in
-    sym (ap (λ (k : ℕ). s .args .magnitude / 2 ^ k) e ∙ div-eq-of-lt (s .fits .magnitude .fits)))
+    sym (ap (λ (k : ℕ). s .args .magnitude / 2 ^ k) e ∙ div-eq-of-lt (s .fits .magnitude .fits))
 
 pub part-spec : {M : Type 1} → statement M
 part-spec = tie.close (tie.spec shr-result returns returns-2)
