@@ -13,7 +13,8 @@ use Rattle.format.specs.declared.UnsignedAnswer.the-variants.{Refused}
 use Rattle.format.specs.Meaning.{Outcome, refused, faultOf, unless, unsignedAnswer}
 use Rattle.format.specs.Fault.{fault-free, width-bounds}
 use Rattle.format.specs.Settle.{unless-fault, unless-none}
-use Rattle.decimal.specs.Meaning.{textOf, rawText, put, after, putAnswer, putOver, writeOf, leftOf}
+use Rattle.decimal.specs.Meaning.{textOf, rawText, put, after, writeOf, leftOf}
+use Rattle.decimal.specs.Layout.{putAnswer, putOver}
 
 -- a raw's text is that of its sign and its magnitude
 pub raw-text : (raw : ℤ) (f : ℕ) → textOf (ltZ raw (pos 0)) (natAbs raw) f ≡ rawText raw f

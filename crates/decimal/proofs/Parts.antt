@@ -15,9 +15,9 @@ use borrow.Author.Tests.{eqb-true, eqb-false, ne-eqb, le-leb, lt-leb}
 use Rattle.format.specs.declared.UnsignedAnswer.{UnsignedAnswer}
 use Rattle.format.specs.declared.UnsignedAnswer.the-variants.{Done, Refused}
 use Rattle.format.specs.Meaning.{Outcome, done, refused, unsignedAnswer}
-use Rattle.decimal.specs.Meaning.{byteOf, minus, fractionBy, fractionDigits, fractionText, put, after, putAnswer, putOver}
+use Rattle.decimal.specs.Meaning.{byteOf, minus, fractionBy, fractionDigits, fractionText, put, after}
 use Rattle.decimal.specs.Digits.{mod-scale, fraction-scale, ends-start, ends-scale}
-use Rattle.decimal.specs.Layout.{point, first, places, Filled, Ends, wordText}
+use Rattle.decimal.specs.Layout.{point, first, places, Filled, Ends, wordText, putAnswer, putOver}
 use Rattle.decimal.proofs.Steps.{before}
 
 -- ---- the sign

@@ -5,7 +5,9 @@ use mathlib.Core.List.{List, [], _∷_, map}
 use Prim.Native.Nat.{ℕ, _+_, _-_, _*_, _^_, _≤_}
 use lib.Dec.{eqb}
 use lib.ListN.{length, take, drop}
-use Rattle.decimal.specs.Meaning.{byteOf, fractionBy}
+use Rattle.format.specs.declared.UnsignedAnswer.{UnsignedAnswer}
+use Rattle.format.specs.Meaning.{unsignedAnswer}
+use Rattle.decimal.specs.Meaning.{byteOf, fractionBy, put, after}
 
 -- the place of the point, the place of the first digit after it, and how many places there are
 abbrev pub point : ℕ
@@ -32,3 +34,10 @@ pub record Ends (k m n : ℕ) : Type 0 where
 -- the text of a fraction of 64 bits that has at most k digits
 unfoldable pub wordText : ℕ → ℕ → List ℕ
 wordText k n = cond (eqb n 0) [] (46 ∷ map byteOf (fractionBy (2 ^ 64) k n))
+
+-- a text into a buffer, for a format that is one: the answer, and the buffer after it
+abbrev pub putAnswer : List ℕ → List ℕ → UnsignedAnswer
+putAnswer t out = unsignedAnswer (put t out)
+
+abbrev pub putOver : List ℕ → List ℕ → List ℕ
+putOver t out = after t out (put t out)

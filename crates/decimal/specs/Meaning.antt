@@ -6,8 +6,7 @@ use Prim.Native.Nat.{ℕ, zero, suc, _+_, _*_, _/_, _%_, _^_}
 use lib.Dec.{leb, ltb, eqb}
 use lib.IntN.{ℤ, pos, negsuc}
 use lib.ListN.{length, drop}
-use Rattle.format.specs.declared.UnsignedAnswer.{UnsignedAnswer}
-use Rattle.format.specs.Meaning.{Outcome, done, refused, unless, faultOf, unsignedAnswer}
+use Rattle.format.specs.Meaning.{Outcome, done, refused, unless, faultOf}
 
 -- a digit as a byte: `0` is 48
 abbrev pub byteOf : ℕ → ℕ
@@ -64,10 +63,3 @@ writeOf raw w f out = unless (faultOf w f) (put (rawText raw f) out)
 
 unfoldable pub leftOf : ℤ → ℕ → ℕ → List ℕ → List ℕ
 leftOf raw w f out = after (rawText raw f) out (writeOf raw w f out)
-
--- the same of a text, for a format that is one
-abbrev pub putAnswer : List ℕ → List ℕ → UnsignedAnswer
-putAnswer t out = unsignedAnswer (put t out)
-
-abbrev pub putOver : List ℕ → List ℕ → List ℕ
-putOver t out = after t out (put t out)

@@ -1,6 +1,7 @@
 -- What is proved of the text of a number, with the readers' meaning.
 --   length          text-length: at most 67 bytes
 --   round trip      write-read: written and then read as a plain text in radix 10, a raw is itself, in every manner, with the flag clear
+--   by the promise  done-text, written-reads: the same of what a writer leaves in the buffer, from its promise alone
 --   one raw         same-text: raws with the same F that are written the same are the same
 --   one text        only (Form): a text of the form that writes a number is the text of that number
 --   read, write     read-write: a text of the form whose number the format holds is read as its raw, which is written as that text
@@ -11,15 +12,16 @@ use mathlib.Core.List.{List, [], _∷_, _++_, map, append-nil}
 use Prim.Native.Nat.{ℕ, zero, suc, _+_, _-_, _*_, _/_, _%_, _^_, _≤_, _<_}
 use native.Mathlib.Nat.{zero-add, mul-pos, pos-of-ne-zero, one-le-pow, pow-le-pow-left, div-lt-iff-lt-mul, div-eq-of-lt}
 use native.Mathlib.Omega.{arith}
-use lib.Dec.{ltb, eqb, lit<, lit≤}
+use lib.Dec.{leb, ltb, eqb, lit<, lit≤}
 use lib.IntN.{ℤ, pos, negsuc}
 use lib.Pow.{pow-pos, pow-add, pow-mono}
 use lib.ListN.{length, take, drop, length-append, length-map, drop-of-length-le}
-use lib.Seq.{take-all}
-use borrow.Author.Tests.{lt-ltb, ltb-true, ltb-false, leb-true, ne-eqb}
+use lib.Seq.{take-all, take-append-seam}
+use borrow.Author.Tests.{lt-ltb, ltb-true, ltb-false, leb-true, ne-eqb, eqb-true}
 use Rattle.laws.specs.Nearest.{nearestEven, nearest-exact}
 use Rattle.format.specs.declared.Manner.{Manner}
-use Rattle.format.specs.Meaning.{Sign, Outcome, done, faultOf, settle, withSign}
+use Rattle.format.specs.declared.UnsignedAnswer.the-variants.{Done}
+use Rattle.format.specs.Meaning.{Sign, done, refused, faultOf, unless, settle, withSign, unsignedAnswer}
 use Rattle.format.specs.Theorems.{InRange, limit, limit-span, in-fits, settle-fits}
 use Rattle.format.specs.Fault.{fault-free, width-bounds}
 use Rattle.format.specs.Place.{fits-place}
@@ -29,7 +31,8 @@ use Rattle.text.specs.Class.{digit-ten}
 use Rattle.text.specs.Accepted.{scan-append}
 use Rattle.text.specs.Run.{valuesOf, values-digit, runMore, runLen, partOf, withDigits, seenAfter, scan-run}
 use Rattle.text.specs.Theorems.{Taken, read-as}
-use Rattle.decimal.specs.Meaning.{byteOf, wholeDigits, fractionBy, fractionDigits, minus, wholeText, fractionText, textOf, rawText}
+use Rattle.decimal.specs.Meaning.{byteOf, wholeDigits, fractionBy, fractionDigits, minus, wholeText, fractionText, textOf, rawText, put, after, writeOf, leftOf}
+use Rattle.decimal.specs.Promise.{WriteSigned}
 use Rattle.decimal.specs.Digits.{whole-last, whole-length, whole-text-length}
 use Rattle.decimal.specs.Form.{Digits, none, more, Leads, lone, first, Form, Writes, pointed, formText, text-form, digits-write, form-of, only}
 
@@ -243,3 +246,22 @@ raw-number (negsuc n) f = text-number true (suc n) f (λ e. omega arith)
 
 pub same-text : (f : ℕ) (a b : ℤ) → rawText a f ≡ rawText b f → a ≡ b
 same-text f a b e = sym (raw-number a f) ∙ ap (λ (t : List ℕ). numberOf f (plainScan 10 t)) e ∙ raw-number b f
+
+-- ---- From the promise of a writer alone: what it is done with is the text of the raw, and reading it gives the raw back.
+module _ (raw : ℤ) (w f : ℕ) (out left : List ℕ) (n : ℕ) (flag : Bool) where
+  pub done-text : WriteSigned raw w f out (Done n flag) left → (faultOf w f ≡ 0) × (take n left ≡ rawText raw f)
+  unfolding writeOf leftOf put after unless unsignedAnswer
+  done-text p = go (eqb (faultOf w f) 0) refl (leb (length (rawText raw f)) (length out)) (p .0) (p .1)
+    where
+      go : (a : Bool) → eqb (faultOf w f) 0 ≡ a → (b : Bool)
+          → Done n flag ≡ unsignedAnswer (cond a (cond b (done (pos (length (rawText raw f))) false) (refused 5)) (refused (faultOf w f)))
+          → left ≡ after (rawText raw f) out (cond a (cond b (done (pos (length (rawText raw f))) false) (refused 5)) (refused (faultOf w f)))
+          → (faultOf w f ≡ 0) × (take n left ≡ rawText raw f)
+      go true e true r l =
+          let size : n ≡ length (rawText raw f) = cc in
+          (eqb-true (faultOf w f) 0 e, ap₂ take size l ∙ take-append-seam (rawText raw f) (drop (length (rawText raw f)) out))
+      go true e false r l = let z : _≡_ {A = ℕ} 0 1 = cc in absurd (omega arith)
+      go false e b r l = let z : _≡_ {A = ℕ} 0 1 = cc in absurd (omega arith)
+
+  pub written-reads : (k : Manner) (s : Sign) → WriteSigned raw w f out (Done n flag) left → InRange s w raw → readOf k s w f 10 (take n left) ≡ done raw false
+  written-reads k s p range = let d = done-text p in ap (readOf k s w f 10) (d .1) ∙ write-read k s w f (d .0) raw range
