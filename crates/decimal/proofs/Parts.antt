@@ -63,11 +63,11 @@ module _ (f n : ℕ) (text : List ℕ) (l : length text ≡ places) where
   word-none e = rw e (refl, omega arith, sym (append-nil (take point text)), l)
 
   -- the point, and then the digits
-  pub word-some : (end : ℕ) (left : List ℕ) → (n ≡ 0 → ⊥) → f ≤ 64 → end ≤ first + f → length left ≡ places
+  pub word-some : (end : ℕ) (left : List ℕ) → (n ≡ 0 → ⊥) → end ≤ places → length left ≡ places
       → take end left ≡ take first (set text point 46) ++ map byteOf (fractionBy (2 ^ 64) f n)
       → (end ≡ point + length (wordText f n)) × (end ≤ places) × (take end left ≡ take point text ++ wordText f n) × (length left ≡ places)
   unfolding wordText
-  word-some end left h b k r e =
+  word-some end left h k r e =
       rw (ne-eqb n 0 h) (
         omega (arith, long, length-take-le end left (omega arith), length-take-le point text (omega arith), length-append (take point text) (46 ∷ ds)),
         omega arith,

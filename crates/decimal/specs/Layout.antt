@@ -17,7 +17,7 @@ abbrev pub first : ℕ
 first = 22
 
 abbrev pub places : ℕ
-places = 86
+places = 87
 
 -- the text stands in its layout from `start` to `end`
 pub record Filled (t text : List ℕ) (start end : ℕ) : Type 0 where
@@ -34,6 +34,10 @@ pub record Ends (k m n : ℕ) : Type 0 where
 -- the text of a fraction of 64 bits that has at most k digits
 unfoldable pub wordText : ℕ → ℕ → List ℕ
 wordText k n = cond (eqb n 0) [] (46 ∷ map byteOf (fractionBy (2 ^ 64) k n))
+
+-- how many of the digits of a last pair are zeros to spare: one, if the second is 0 and nothing is left
+unfoldable pub spareOf : ℕ → ℕ → ℕ
+spareOf digit rest = cond (eqb digit 0) (cond (eqb rest 0) 1 0) 0
 
 -- a text into a buffer, for a format that is one: the answer, and the buffer after it
 abbrev pub putAnswer : List ℕ → List ℕ → UnsignedAnswer

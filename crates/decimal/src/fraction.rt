@@ -4,7 +4,7 @@ ghost use mathlib.Core.List.{_++_};
 ghost use Prim.Native.Nat.{_+_, _-_, _*_, _%_, _^_, _≤_};
 ghost use lib.ListN.{length, take};
 ghost use Rattle.decimal.specs.Meaning.{fractionText};
-ghost use Rattle.decimal.specs.Layout.{places, point, Ends, wordText};
+ghost use Rattle.decimal.specs.Layout.{places, point, Ends, wordText, spareOf};
 use crate::PLACES;
 use crate::POINT;
 
@@ -27,7 +27,8 @@ fn scaled(magnitude: u64, frac: u32) -> u64
     magnitude << (64 - frac)
 }
 
-// The digits of fraction / 2^64, each the word above ten times what is left, until nothing is left.
+// The digits of fraction / 2^64, two at a time: the word above a hundred times what is left, until nothing is left. Where the
+// number of digits is odd, the last pair has a zero to spare.
 fn digits(text: &mut [u8; PLACES], fraction: u64, frac: u32) -> usize
     requires { ⌜ (frac ≤ 64) × (length (now text) ≡ places) × Ends frac (2 ^ 64) fraction ⌝ }
     ensures { λ r. ⌜ (r ≡ point + length (wordText frac fraction)) × (r ≤ places) × (take r (now (text .exit)) ≡ take point (now (text .entry)) ++ wordText frac fraction) × (length (now (text .exit)) ≡ places) ⌝ }
@@ -38,11 +39,28 @@ fn digits(text: &mut [u8; PLACES], fraction: u64, frac: u32) -> usize
     text[POINT] = b'.';
     let mut end = POINT + 1;
     let mut rest = fraction;
+    let mut zeros: usize = 0;
     while rest != 0 {
-        let next = wide::mul(rest, 10);
-        text[end] = crate::byte(next.high);
+        let next = wide::mul(rest, 100);
+        let pair = next.high;
         rest = next.low;
-        end += 1;
+        text[end] = crate::byte(pair / 10);
+        text[end + 1] = crate::byte(pair % 10);
+        zeros = spare(pair % 10, rest);
+        end += 2;
     }
-    end
+    end - zeros
+}
+
+// Whether the last digit of a pair is a zero to spare: it is 0, and nothing is left.
+fn spare(digit: u64, rest: u64) -> usize
+    ensures { λ r. ⌜ r ≡ spareOf digit rest ⌝ }
+{
+    if digit == 0 {
+        if rest == 0 {
+            return 1;
+        }
+        return 0;
+    }
+    0
 }

@@ -16,10 +16,10 @@ mod whole;
 pub const TOO_SMALL: u32 = 5;
 
 // A text is laid out around its point: sign and whole digits end before it, at most 21 bytes; the point and at most 64 digits
-// follow. So neither part waits for the other's length.
+// follow, and a place to spare. So neither part waits for the other's length.
 const POINT: usize = 21;
 
-const PLACES: usize = 86;
+const PLACES: usize = 87;
 
 // Where a text stands in its layout.
 struct Span {
