@@ -1,6 +1,6 @@
 -- From a format's check to the answer of an entry: a fault is answered and leaves the buffer, without one the text is put. Assumes nothing.
-use mathlib.Core.Path.{_≡_, refl, sym, ap, ap₂, _∙_}
-use mathlib.Core.Bool.{Bool, true, false}
+use mathlib.Core.Path.{_≡_, refl, sym, ap, _∙_}
+use mathlib.Core.Bool.{Bool}
 use mathlib.Core.List.{List}
 use Prim.Native.Nat.{ℕ, suc, _≤_}
 use native.Mathlib.Omega.{arith}
@@ -10,7 +10,7 @@ use Rattle.laws.specs.Diff.{orders}
 use Rattle.laws.specs.Tests.{lt-ltZ, le-ltZ}
 use Rattle.format.specs.declared.UnsignedAnswer.{UnsignedAnswer}
 use Rattle.format.specs.declared.UnsignedAnswer.the-variants.{Refused}
-use Rattle.format.specs.Meaning.{Outcome, refused, faultOf, unless, unsignedAnswer}
+use Rattle.format.specs.Meaning.{refused, faultOf, unless, unsignedAnswer}
 use Rattle.format.specs.Fault.{fault-free, width-bounds}
 use Rattle.format.specs.Settle.{unless-fault, unless-none}
 use Rattle.decimal.specs.Meaning.{textOf, rawText, put, after, writeOf, leftOf}

@@ -3,18 +3,16 @@
 use mathlib.Core.Path.{_≡_, refl, sym, ap, ap₂, _∙_}
 use mathlib.Core.Bool.{Bool, true, false, cond}
 use mathlib.Core.List.{List, [], _∷_, _++_, map, append-assoc, append-nil}
-use Prim.Native.Nat.{ℕ, zero, suc, _+_, _-_, _*_, _/_, _%_, _^_, _≤_, _<_}
-use native.Mathlib.Nat.{pow-zero, mul-pos}
+use Prim.Native.Nat.{ℕ, _+_, _-_, _*_, _%_, _^_, _≤_, _<_}
+use native.Mathlib.Nat.{mul-pos}
 use native.Mathlib.Omega.{arith}
-use lib.Dec.{eqb, leb, lit<}
-use lib.IntN.{pos}
+use lib.Dec.{eqb}
 use lib.Pow.{pow-pos, pow-add}
 use lib.ListN.{length, take, drop, set, length-set, length-append}
 use lib.Seq.{length-take-le, take-suc-set, take-add, take-append-add, take-length, drop-at}
 use borrow.Author.Tests.{eqb-true, eqb-false, ne-eqb, le-leb, lt-leb}
-use Rattle.format.specs.declared.UnsignedAnswer.{UnsignedAnswer}
 use Rattle.format.specs.declared.UnsignedAnswer.the-variants.{Done, Refused}
-use Rattle.format.specs.Meaning.{Outcome, done, refused, unsignedAnswer}
+use Rattle.format.specs.Meaning.{unsignedAnswer}
 use Rattle.decimal.specs.Meaning.{byteOf, minus, fractionBy, fractionDigits, fractionText, put, after}
 use Rattle.decimal.specs.Digits.{mod-scale, fraction-scale, ends-start, ends-scale}
 use Rattle.decimal.specs.Layout.{point, first, places, Filled, Ends, wordText, putAnswer, putOver}

@@ -7,6 +7,7 @@ use Prim.Native.Nat.{ℕ, zero, suc, _+_, _-_, _*_, _/_, _%_, _^_, _≤_, _<_}
 use native.Mathlib.Nat.{pow-suc, pow-zero, div-add-mod', mod-lt, mul-sub, mul-comm, mul-div-mul-right, mul-pos}
 use native.Mathlib.Omega.{arith}
 use lib.Dec.{ltb, eqb, lit<}
+use lib.Pow.{pow-pos}
 use lib.ListN.{length, length-append, length-map}
 use borrow.Author.Tests.{lt-ltb, le-ltb, ltb-true, ltb-false, ne-eqb, eqb-true, eqb-false}
 use Rattle.decimal.specs.Meaning.{byteOf, wholeBy, wholeDigits, wholeText, fractionBy}
@@ -123,6 +124,19 @@ ends-none m n h e = go (e .times) (e .whole)
     go : (a : ℕ) → n * 2 ^ 0 ≡ a * m → n ≡ 0
     go zero e = omega arith
     go (suc a) e = absurd (omega (arith, e))
+
+-- What is left of n / m after k digits. With F fraction bits nothing is left after F digits: `fractionDigits` has them all.
+unfoldable pub leftAfter : ℕ → ℕ → ℕ → ℕ
+leftAfter m zero n = n
+leftAfter m (suc k) n = leftAfter m k (n * 10 % m)
+
+left-none : (m k n : ℕ) → 0 < m → n < m → Ends k m n → leftAfter m k n ≡ 0
+unfolding leftAfter
+left-none m zero n p h e = ends-none m n h e
+left-none m (suc k) n p h e = left-none m k (n * 10 % m) p (mod-lt (n * 10) p) (ends-next k m n e)
+
+pub fraction-ends : (f n : ℕ) → n < 2 ^ f → leftAfter (2 ^ f) f n ≡ 0
+fraction-ends f n h = left-none (2 ^ f) f n (pow-pos f) h (ends-start f n)
 
 -- the fraction decides, not how it is written
 pub ends-scale : (k m n c : ℕ) → Ends k m n → Ends k (m * c) (n * c)

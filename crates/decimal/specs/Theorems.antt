@@ -26,7 +26,7 @@ use Rattle.format.specs.Theorems.{InRange, limit, limit-span, in-fits, settle-f
 use Rattle.format.specs.Fault.{fault-free, width-bounds}
 use Rattle.format.specs.Place.{fits-place}
 use Rattle.digits.specs.Meaning.{digitsOf}
-use Rattle.text.specs.Meaning.{digitOf, isDigit, isRadix, Written, Part, whole, fraction, Seen, nothing, sign, digit, Scan, at, refuse, Error, blank, onSign, onPoint, step, scan, ended, finish, plainScan, natFrom, natOf, num, den, rawOf, textLimit, readOf}
+use Rattle.text.specs.Meaning.{digitOf, isDigit, isRadix, Written, Part, whole, fraction, Seen, nothing, sign, digit, Scan, at, refuse, Error, blank, onSign, onPoint, step, scan, ended, finish, plainScan, natOf, num, den, rawOf, readOf}
 use Rattle.text.specs.Class.{digit-ten}
 use Rattle.text.specs.Accepted.{scan-append}
 use Rattle.text.specs.Run.{valuesOf, values-digit, runMore, runLen, partOf, withDigits, seenAfter, scan-run}

@@ -2,7 +2,7 @@
 ghost use mathlib.Core.Path.{_≡_};
 ghost use mathlib.Core.List.{_++_};
 ghost use Prim.Native.Nat.{_+_, _-_, _≤_, _<_};
-ghost use lib.ListN.{length, take, drop};
+ghost use lib.ListN.{length, drop};
 ghost use Rattle.decimal.specs.Meaning.{byteOf, minus, textOf};
 ghost use Rattle.decimal.specs.Layout.{places, Filled, putAnswer, putOver};
 use format::UnsignedAnswer;
