@@ -67,6 +67,12 @@ tq_unsigned tq_read_unsigned(const uint8_t *text, size_t len, uint32_t width, ui
 tq_signed tq_literal_signed(const uint8_t *text, size_t len, uint32_t width, uint32_t frac);
 tq_unsigned tq_literal_unsigned(const uint8_t *text, size_t len, uint32_t width, uint32_t frac);
 
+/* The exact decimal text of a raw, into out: `-` if negative, no leading zeros, a point and digits only for a fraction, no trailing zero; at most 67
+ * bytes. The value is the number of bytes written; bytes after them stay. TQ_WRONG_LENGTH where out is too short, and then it is unchanged.
+ * tq_read_* of the text, in radix 10, gives the same raw. */
+tq_unsigned tq_write_signed(int64_t raw, uint32_t width, uint32_t frac, uint8_t *out, size_t len);
+tq_unsigned tq_write_unsigned(uint64_t raw, uint32_t width, uint32_t frac, uint8_t *out, size_t len);
+
 /* The greatest k with 10^k <= raw / 2^frac, as value; TQ_NOT_POSITIVE where there is none. */
 tq_signed tq_log10_signed(int64_t raw, uint32_t width, uint32_t frac);
 tq_signed tq_log10_unsigned(uint64_t raw, uint32_t width, uint32_t frac);
