@@ -1,0 +1,4 @@
+// Arithmetic of document 01, module 4: the exact result in whole steps, then the manner of `format`.
+mod exact;
+pub mod signed;
+pub mod unsigned;
