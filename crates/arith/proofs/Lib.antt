@@ -1,3 +1,4 @@
 -- What the proofs of more than one function use.
-mod Signs
+mod Refusals
 mod Settled
+mod Signs

@@ -1,10 +1,15 @@
 -- Document 01, module 4, one line an operation, for both signs: the format's refusals, then the exact result in the manner.
 -- a and b are raws, so a step is 2^-F. An operand is the number that it is, also where the format could not hold it.
 -- Assumes nothing.
-use Prim.Native.Nat.{ℕ}
-use lib.IntN.{ℤ, negℤ, _+ℤ_, _-ℤ_}
+use mathlib.Core.Bool.{Bool, false, cond, not}
+use Prim.Native.Nat.{ℕ, _^_, _%_}
+use lib.Dec.{eqb, ltb}
+use lib.IntN.{ℤ, pos, negℤ, natAbs, _+ℤ_, _-ℤ_, _*ℤ_}
+use lib.Signed.{quotZ, remZ}
+use Rattle.laws.specs.Floor.{floor}
 use Rattle.format.specs.declared.Manner.{Manner}
-use Rattle.format.specs.Meaning.{Sign, Outcome, faultOf, unless, settle}
+use Rattle.format.specs.declared.Manner.the-variants.{Strict, Saturating, Wrapping, Overflowing}
+use Rattle.format.specs.Meaning.{Sign, Outcome, done, faultOf, unless, settle, wrap}
 
 -- "Sum, difference, negation"
 abbrev pub addOf : Manner → Sign → ℕ → ℕ → ℤ → ℤ → Outcome
@@ -15,3 +20,46 @@ subOf k s w f a b = unless (faultOf w f) (settle k s w (a -ℤ b))
 
 abbrev pub negOf : Manner → Sign → ℕ → ℕ → ℤ → Outcome
 negOf k s w f a = unless (faultOf w f) (settle k s w (negℤ a))
+
+-- "Product and quotient are exact before rounding; we expect the product rounded toward minus infinity and the quotient toward zero."
+abbrev pub mulOf : Manner → Sign → ℕ → ℕ → ℤ → ℤ → Outcome
+mulOf k s w f a b = unless (faultOf w f) (settle k s w (floor (a *ℤ b) (2 ^ f)))
+
+-- "Several apply: 1, 2, .. in this order": the first of two refusals, 0 for none
+unfoldable pub orElse : ℕ → ℕ → ℕ
+orElse n m = cond (eqb n 0) m n
+
+-- "31: zero divisor"
+unfoldable pub divisorFault : ℤ → ℕ
+divisorFault b = cond (eqb (natAbs b) 0) 31 0
+
+abbrev pub divOf : Manner → Sign → ℕ → ℕ → ℤ → ℤ → Outcome
+divOf k s w f a b = unless (orElse (faultOf w f) (divisorFault b)) (settle k s w (quotZ (a *ℤ pos (2 ^ f)) b))
+
+-- the remainder has the dividend's sign
+abbrev pub remOf : Manner → Sign → ℕ → ℕ → ℤ → ℤ → Outcome
+remOf k s w f a b = unless (orElse (faultOf w f) (divisorFault b)) (settle k s w (remZ a b))
+
+-- "the count is taken modulo W, the flag is set exactly if it was not in 0 to W-1, strict then gives 10, and there is no saturating shift":
+-- asked for in the saturating manner, a shift is strict
+unfoldable pub pastFault : Manner → ℕ
+pastFault Strict = 10
+pastFault Saturating = 10
+pastFault Wrapping = 0
+pastFault Overflowing = 0
+
+unfoldable pub countFault : Manner → ℕ → ℕ → ℕ
+countFault k w n = cond (ltb n w) 0 (pastFault k)
+
+unfoldable pub countFlag : Manner → ℕ → ℕ → Bool
+countFlag Strict w n = false
+countFlag Saturating w n = false
+countFlag Wrapping w n = false
+countFlag Overflowing w n = not (ltb n w)
+
+-- "Shifts act on the raw, right shifts of signed raws keep the sign"
+abbrev pub shlOf : Manner → Sign → ℕ → ℕ → ℤ → ℕ → Outcome
+shlOf k s w f a n = unless (orElse (faultOf w f) (countFault k w n)) (done (wrap s w (a *ℤ pos (2 ^ (n % w)))) (countFlag k w n))
+
+abbrev pub shrOf : Manner → Sign → ℕ → ℕ → ℤ → ℕ → Outcome
+shrOf k s w f a n = unless (orElse (faultOf w f) (countFault k w n)) (done (wrap s w (floor a (2 ^ (n % w)))) (countFlag k w n))

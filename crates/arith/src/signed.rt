@@ -1,6 +1,9 @@
 // Arithmetic in a signed format.
-ghost use Rattle.arith.specs.Promise.{SignedAdd, SignedSub, SignedNeg};
+ghost use mathlib.Core.Path.{_≡_};
+ghost use Rattle.arith.specs.Shift.{flaggedS};
+ghost use Rattle.arith.specs.Promise.{SignedAdd, SignedSub, SignedNeg, SignedMul, SignedDiv, SignedRem, SignedShl, SignedShr};
 use crate::exact;
+use crate::refusal;
 use format::Manner;
 use format::SignedAnswer;
 
@@ -26,4 +29,75 @@ pub fn neg(a: i64, width: u32, frac: u32, manner: Manner) -> SignedAnswer
 {
     let x = exact::of_number(exact::negated(exact::of_signed(a)));
     format::signed::settle(x.neg, x.high, x.low, width, frac, manner)
+}
+
+// a * b / 2^frac, rounded toward minus infinity
+pub fn mul(a: i64, b: i64, width: u32, frac: u32, manner: Manner) -> SignedAnswer
+    ensures { λ r. ⌜ SignedMul a b width frac manner r ⌝ }
+{
+    let x = exact::product(exact::of_signed(a), exact::of_signed(b), frac);
+    format::signed::settle(x.neg, x.high, x.low, width, frac, manner)
+}
+
+// a * 2^frac / b, rounded toward zero; 31 for b = 0
+pub fn div(a: i64, b: i64, width: u32, frac: u32, manner: Manner) -> SignedAnswer
+    ensures { λ r. ⌜ SignedDiv a b width frac manner r ⌝ }
+{
+    let y = exact::of_signed(b);
+    let fault = refusal::of_divisor(width, frac, y);
+    if fault == 0 {
+        let x = exact::quotient(exact::of_signed(a), y, frac);
+        return format::signed::fit(x.neg, x.high, x.low, width, manner);
+    }
+    SignedAnswer::Refused(fault)
+}
+
+// What is left of a, with its sign; 31 for b = 0
+pub fn rem(a: i64, b: i64, width: u32, frac: u32, manner: Manner) -> SignedAnswer
+    ensures { λ r. ⌜ SignedRem a b width frac manner r ⌝ }
+{
+    let y = exact::of_signed(b);
+    let fault = refusal::of_divisor(width, frac, y);
+    if fault == 0 {
+        let x = exact::remainder(exact::of_signed(a), y);
+        return format::signed::fit(x.neg, x.high, x.low, width, manner);
+    }
+    SignedAnswer::Refused(fault)
+}
+
+// a * 2^n, wrapped, for n the count modulo the width
+pub fn shl(a: i64, count: u32, width: u32, frac: u32, manner: Manner) -> SignedAnswer
+    ensures { λ r. ⌜ SignedShl a count width frac manner r ⌝ }
+{
+    let fault = refusal::of_count(width, frac, count, manner);
+    if fault == 0 {
+        let x = exact::shifted_left(exact::of_signed(a), count % width);
+        let wrapped = format::signed::fit(x.neg, x.high, x.low, width, Manner::Wrapping);
+        return flagged(wrapped, refusal::flag(width, count, manner));
+    }
+    SignedAnswer::Refused(fault)
+}
+
+// a / 2^n rounded toward minus infinity, wrapped, for n the count modulo the width
+pub fn shr(a: i64, count: u32, width: u32, frac: u32, manner: Manner) -> SignedAnswer
+    ensures { λ r. ⌜ SignedShr a count width frac manner r ⌝ }
+{
+    let fault = refusal::of_count(width, frac, count, manner);
+    if fault == 0 {
+        let y = exact::of_signed(a);
+        let x = exact::floor(y.neg, 0, y.size, count % width);
+        let wrapped = format::signed::fit(x.neg, x.high, x.low, width, Manner::Wrapping);
+        return flagged(wrapped, refusal::flag(width, count, manner));
+    }
+    SignedAnswer::Refused(fault)
+}
+
+// The same answer with another flag.
+fn flagged(a: SignedAnswer, flag: bool) -> SignedAnswer
+    ensures { λ r. ⌜ r ≡ flaggedS a flag ⌝ }
+{
+    match a {
+        SignedAnswer::Done { raw, flag: _ } => SignedAnswer::Done { raw, flag },
+        SignedAnswer::Refused(n) => SignedAnswer::Refused(n),
+    }
 }

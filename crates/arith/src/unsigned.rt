@@ -1,6 +1,9 @@
 // Arithmetic in an unsigned format.
-ghost use Rattle.arith.specs.Promise.{UnsignedAdd, UnsignedSub, UnsignedNeg};
+ghost use mathlib.Core.Path.{_≡_};
+ghost use Rattle.arith.specs.Shift.{flaggedU};
+ghost use Rattle.arith.specs.Promise.{UnsignedAdd, UnsignedSub, UnsignedNeg, UnsignedMul, UnsignedDiv, UnsignedRem, UnsignedShl, UnsignedShr};
 use crate::exact;
+use crate::refusal;
 use format::Manner;
 use format::UnsignedAnswer;
 
@@ -26,4 +29,75 @@ pub fn neg(a: u64, width: u32, frac: u32, manner: Manner) -> UnsignedAnswer
 {
     let x = exact::of_number(exact::negated(exact::of_unsigned(a)));
     format::unsigned::settle(x.neg, x.high, x.low, width, frac, manner)
+}
+
+// a * b / 2^frac, rounded toward minus infinity
+pub fn mul(a: u64, b: u64, width: u32, frac: u32, manner: Manner) -> UnsignedAnswer
+    ensures { λ r. ⌜ UnsignedMul a b width frac manner r ⌝ }
+{
+    let x = exact::product(exact::of_unsigned(a), exact::of_unsigned(b), frac);
+    format::unsigned::settle(x.neg, x.high, x.low, width, frac, manner)
+}
+
+// a * 2^frac / b, rounded toward zero; 31 for b = 0
+pub fn div(a: u64, b: u64, width: u32, frac: u32, manner: Manner) -> UnsignedAnswer
+    ensures { λ r. ⌜ UnsignedDiv a b width frac manner r ⌝ }
+{
+    let y = exact::of_unsigned(b);
+    let fault = refusal::of_divisor(width, frac, y);
+    if fault == 0 {
+        let x = exact::quotient(exact::of_unsigned(a), y, frac);
+        return format::unsigned::fit(x.neg, x.high, x.low, width, manner);
+    }
+    UnsignedAnswer::Refused(fault)
+}
+
+// What is left of a, with its sign; 31 for b = 0
+pub fn rem(a: u64, b: u64, width: u32, frac: u32, manner: Manner) -> UnsignedAnswer
+    ensures { λ r. ⌜ UnsignedRem a b width frac manner r ⌝ }
+{
+    let y = exact::of_unsigned(b);
+    let fault = refusal::of_divisor(width, frac, y);
+    if fault == 0 {
+        let x = exact::remainder(exact::of_unsigned(a), y);
+        return format::unsigned::fit(x.neg, x.high, x.low, width, manner);
+    }
+    UnsignedAnswer::Refused(fault)
+}
+
+// a * 2^n, wrapped, for n the count modulo the width
+pub fn shl(a: u64, count: u32, width: u32, frac: u32, manner: Manner) -> UnsignedAnswer
+    ensures { λ r. ⌜ UnsignedShl a count width frac manner r ⌝ }
+{
+    let fault = refusal::of_count(width, frac, count, manner);
+    if fault == 0 {
+        let x = exact::shifted_left(exact::of_unsigned(a), count % width);
+        let wrapped = format::unsigned::fit(x.neg, x.high, x.low, width, Manner::Wrapping);
+        return flagged(wrapped, refusal::flag(width, count, manner));
+    }
+    UnsignedAnswer::Refused(fault)
+}
+
+// a / 2^n rounded toward minus infinity, wrapped, for n the count modulo the width
+pub fn shr(a: u64, count: u32, width: u32, frac: u32, manner: Manner) -> UnsignedAnswer
+    ensures { λ r. ⌜ UnsignedShr a count width frac manner r ⌝ }
+{
+    let fault = refusal::of_count(width, frac, count, manner);
+    if fault == 0 {
+        let y = exact::of_unsigned(a);
+        let x = exact::floor(y.neg, 0, y.size, count % width);
+        let wrapped = format::unsigned::fit(x.neg, x.high, x.low, width, Manner::Wrapping);
+        return flagged(wrapped, refusal::flag(width, count, manner));
+    }
+    UnsignedAnswer::Refused(fault)
+}
+
+// The same answer with another flag.
+fn flagged(a: UnsignedAnswer, flag: bool) -> UnsignedAnswer
+    ensures { λ r. ⌜ r ≡ flaggedU a flag ⌝ }
+{
+    match a {
+        UnsignedAnswer::Done { raw, flag: _ } => UnsignedAnswer::Done { raw, flag },
+        UnsignedAnswer::Refused(n) => UnsignedAnswer::Refused(n),
+    }
 }
