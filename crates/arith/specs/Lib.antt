@@ -1,3 +1,4 @@
+pub mod Bytes
 pub mod Exact
 pub mod Meaning
 pub mod Promise

@@ -2,11 +2,13 @@
 ghost use mathlib.Core.Path.{_≡_};
 ghost use Rattle.format.specs.Meaning.{faultOf};
 ghost use Rattle.arith.specs.Exact.{numberOf};
-ghost use Rattle.arith.specs.Meaning.{orElse, divisorFault, countFault, pastFault, countFlag};
+ghost use Rattle.arith.specs.Meaning.{orElse, divisorFault, countFault, pastFault, countFlag, roomFault, lengthFault};
 use crate::exact::Number;
 use format::Manner;
 
 pub const ZERO_DIVISOR: u32 = 31;
+
+pub const WRONG_LENGTH: u32 = 5;
 
 // Of a division by y.
 pub fn of_divisor(width: u32, frac: u32, y: Number) -> u32
@@ -58,4 +60,32 @@ pub fn flag(width: u32, count: u32, manner: Manner) -> bool
         Manner::Wrapping => false,
         Manner::Overflowing => !(count < width),
     }
+}
+
+// Of a buffer with len places for a raw's bytes.
+pub fn of_room(width: u32, frac: u32, len: usize) -> u32
+    ensures { λ r. ⌜ r ≡ orElse (faultOf width frac) (roomFault width len) ⌝ }
+{
+    let fault = format::check(width, frac);
+    if fault != 0 {
+        return fault;
+    }
+    if crate::bytes::size(width) <= len {
+        return 0;
+    }
+    WRONG_LENGTH
+}
+
+// Of len bytes to be read as a raw.
+pub fn of_length(width: u32, frac: u32, len: usize) -> u32
+    ensures { λ r. ⌜ r ≡ orElse (faultOf width frac) (lengthFault width len) ⌝ }
+{
+    let fault = format::check(width, frac);
+    if fault != 0 {
+        return fault;
+    }
+    if len == crate::bytes::size(width) {
+        return 0;
+    }
+    WRONG_LENGTH
 }
