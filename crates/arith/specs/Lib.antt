@@ -1,3 +1,4 @@
+pub mod ByteOrder
 pub mod Bytes
 pub mod Cases
 pub mod Exact
