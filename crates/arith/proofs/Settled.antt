@@ -11,6 +11,8 @@ use Rattle.format.specs.declared.SignedAnswer.the-variants.{Done as DoneS, Refu
 use Rattle.format.specs.declared.UnsignedAnswer.{UnsignedAnswer}
 use Rattle.format.specs.declared.UnsignedAnswer.the-variants.{Done as DoneU, Refused as RefusedU}
 use Rattle.format.specs.Meaning.{signed, unsigned, faultOf, unless, settle, wrap, done, signedAnswer, unsignedAnswer}
+use Rattle.format.specs.Answer.{pass-signed, pass-unsigned}
+use Rattle.arith.specs.Meaning.{orElse, countFault, countFlag}
 use Rattle.arith.specs.Shift.{flaggedS, flaggedU}
 
 module _ (w f : ℕ) (k : Manner) {x y : ℤ} (e : x ≡ y) where
@@ -43,11 +45,18 @@ module _ (f : Bool) {n : ℕ} where
   pub kept-unsigned : {a : UnsignedAnswer} → a ≡ RefusedU n → RefusedU n ≡ flaggedU a f
   kept-unsigned e = rw e
 
-module _ (w : ℕ) {x y : ℤ} {f g : Bool} (e : x ≡ y) (h : g ≡ f) where
-  pub shifted-signed : {a r : SignedAnswer} → a ≡ signedAnswer (settle Wrapping signed w x) → r ≡ flaggedS a g → r ≡ signedAnswer (done (wrap signed w y) f)
+module _ (w f n : ℕ) (k : Manner) {x y : ℤ} {g : Bool} {fault : ℕ} (d : fault ≡ orElse (faultOf w f) (countFault k w n)) (z : fault ≡ 0) (e : x ≡ y)
+    (h : g ≡ countFlag k w n) where
+  pub shifted-signed : {a r : SignedAnswer} → a ≡ signedAnswer (settle Wrapping signed w x) → r ≡ flaggedS a g
+      → r ≡ signedAnswer (unless (orElse (faultOf w f) (countFault k w n)) (done (wrap signed w y) (countFlag k w n)))
   unfolding settle signedAnswer
-  shifted-signed q p = p ∙ ap₂ flaggedS q h ∙ ap (λ (z : ℤ). DoneS (wrap signed w z) f) e
+  shifted-signed q p =
+      pass-signed (orElse (faultOf w f) (countFault k w n)) (done (wrap signed w y) (countFlag k w n)) d z
+      (p ∙ ap₂ flaggedS q h ∙ ap (λ (v : ℤ). DoneS (wrap signed w v) (countFlag k w n)) e)
 
-  pub shifted-unsigned : {a r : UnsignedAnswer} → a ≡ unsignedAnswer (settle Wrapping unsigned w x) → r ≡ flaggedU a g → r ≡ unsignedAnswer (done (wrap unsigned w y) f)
+  pub shifted-unsigned : {a r : UnsignedAnswer} → a ≡ unsignedAnswer (settle Wrapping unsigned w x) → r ≡ flaggedU a g
+      → r ≡ unsignedAnswer (unless (orElse (faultOf w f) (countFault k w n)) (done (wrap unsigned w y) (countFlag k w n)))
   unfolding settle unsignedAnswer
-  shifted-unsigned q p = p ∙ ap₂ flaggedU q h ∙ ap (λ (z : ℤ). DoneU (up (wrap unsigned w z)) f) e
+  shifted-unsigned q p =
+      pass-unsigned (orElse (faultOf w f) (countFault k w n)) (done (wrap unsigned w y) (countFlag k w n)) d z
+      (p ∙ ap₂ flaggedU q h ∙ ap (λ (v : ℤ). DoneU (up (wrap unsigned w v)) (countFlag k w n)) e)

@@ -5,7 +5,7 @@ use mir.Facts.{toZ-ofZ}
 use Prim.Native.Nat.{_^_, _%_}
 use lib.IntN.{ℤ}
 use Rattle.laws.specs.Floor.{floor}
-use Rattle.format.specs.Answer.{fault-signed, pass-signed}
+use Rattle.format.specs.Answer.{fault-signed}
 use Rattle.arith.proofs.Refusals.{met}
 use Rattle.arith.proofs.Signs.{via, one-word}
 use Rattle.arith.proofs.Settled.{shifted-signed}
@@ -38,8 +38,8 @@ returns : tie.Need-returns
 returns c =
     let a = c .before .before .before .before .before .before .before .args in
     let y = c .before .before .before .before .of-signed .result in
-    pass-signed _ _ (c .before .before .before .before .before .before .of-count .ensures) (c .before .before .before .before .before .if1 .taken)
-    (shifted-signed _ (via (λ (x : ℤ). floor x (2 ^ (a .count % a .width))) (one-word (y .neg) (y .size) ∙ c .before .before .before .before .of-signed .ensures ∙ toZ-ofZ {w = w64} (c .before .before .before .before .before .before .before .fits .a)) (c .before .before .before .floor .ensures)) (c .before .flag .ensures) (c .before .before .fit .ensures) (c .flagged .ensures))
+    shifted-signed (a .width) (a .frac) (a .count) (a .manner) (c .before .before .before .before .before .before .of-count .ensures) (c .before .before .before .before .before .if1 .taken)
+    (via (λ (x : ℤ). floor x (2 ^ (a .count % a .width))) (one-word (y .neg) (y .size) ∙ c .before .before .before .before .of-signed .ensures ∙ toZ-ofZ {w = w64} (c .before .before .before .before .before .before .before .fits .a)) (c .before .before .before .floor .ensures)) (c .before .flag .ensures) (c .before .before .fit .ensures) (c .flagged .ensures)
 
 returns-2 : tie.Need-returns-2
 returns-2 c = fault-signed _ _ (c .before .of-count .ensures) (c .if1 .left)

@@ -3,7 +3,7 @@ use Prim.Native.Nat.{_^_, _%_}
 use lib.IntN.{ℤ}
 use Rattle.laws.specs.Floor.{floor}
 use mathlib.Core.Path.{_∙_}
-use Rattle.format.specs.Answer.{fault-unsigned, pass-unsigned}
+use Rattle.format.specs.Answer.{fault-unsigned}
 use Rattle.arith.proofs.Refusals.{met}
 use Rattle.arith.proofs.Signs.{via, one-word}
 use Rattle.arith.proofs.Settled.{shifted-unsigned}
@@ -36,8 +36,8 @@ returns : tie.Need-returns
 returns c =
     let a = c .before .before .before .before .before .before .before .args in
     let y = c .before .before .before .before .of-unsigned .result in
-    pass-unsigned _ _ (c .before .before .before .before .before .before .of-count .ensures) (c .before .before .before .before .before .if1 .taken)
-    (shifted-unsigned _ (via (λ (x : ℤ). floor x (2 ^ (a .count % a .width))) (one-word (y .neg) (y .size) ∙ c .before .before .before .before .of-unsigned .ensures) (c .before .before .before .floor .ensures)) (c .before .flag .ensures) (c .before .before .fit .ensures) (c .flagged .ensures))
+    shifted-unsigned (a .width) (a .frac) (a .count) (a .manner) (c .before .before .before .before .before .before .of-count .ensures) (c .before .before .before .before .before .if1 .taken)
+    (via (λ (x : ℤ). floor x (2 ^ (a .count % a .width))) (one-word (y .neg) (y .size) ∙ c .before .before .before .before .of-unsigned .ensures) (c .before .before .before .floor .ensures)) (c .before .flag .ensures) (c .before .before .fit .ensures) (c .flagged .ensures)
 
 returns-2 : tie.Need-returns-2
 returns-2 c = fault-unsigned _ _ (c .before .of-count .ensures) (c .if1 .left)
