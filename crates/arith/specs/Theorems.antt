@@ -4,11 +4,12 @@ use mathlib.Core.Path.{_≡_, refl, sym, ap, ap₂, _∙_}
 use mathlib.Core.Bool.{false}
 use Prim.Native.Nat.{ℕ, zero, suc, _+_, _*_, _/_, _%_, _^_, _≤_, _<_}
 use native.Mathlib.Omega.{arith}
-use native.Mathlib.Nat.{div-add-mod', mod-lt}
+use native.Mathlib.Nat.{div-add-mod', mod-lt, mul-pos, le-antisymm, lt-of-lt-of-le, lt-of-le-of-lt, lt-of-mul-lt-mul-right}
 use lib.Pow.{pow-pos}
 use lib.IntN.{ℤ, pos, negsuc, negℤ, natAbs, _+ℤ_, _*ℤ_, *ℤ-comm, negℤ-negℤ}
 use lib.Signed.{quotZ, remZ, _≤ℤ_, ≤ℤ-refl}
 use Rattle.laws.specs.Diff.{up, dn, le-in, eq-in, add-out, up-neg, dn-neg, up-mul, dn-mul}
+use Rattle.laws.specs.Bound.{abs-mul}
 use Rattle.laws.specs.Floor.{IsFloor, floor, shrZ-floor}
 use Rattle.laws.specs.Order.{+ℤ-mono}
 use Rattle.laws.specs.Ring.{*ℤ-distribˡ, *ℤ-distribʳ, *ℤ-assoc}
@@ -56,6 +57,39 @@ quotient-is n d h =
       high = rw e (omega (arith, whole, mod-lt m h));
       sign = le-in (pos 0) (quotZ n d *ℤ (n *ℤ d)) (omega (arith, sign-quot n d));
     }
+
+-- there is one: the bounds settle its size, and the sign which of the two it is
+below : {n d p q : ℤ} → IsQuotient n d p → IsQuotient n d q → natAbs p ≤ natAbs q
+below {n} {d} {p} {q} a b = let l : natAbs p < natAbs q + 1 = lt-of-mul-lt-mul-right (natAbs d) (lt-of-le-of-lt (a .low) (b .high)) in omega arith
+
+apart : {n d q : ℤ} → IsQuotient n d q → 0 < natAbs q → 0 < natAbs (n *ℤ d)
+apart {n} {d} {q} a h = rw (abs-mul n d) (mul-pos size some)
+  where
+    some : 0 < natAbs d
+    some = go (natAbs d) (a .high)
+      where
+        go : (m : ℕ) → natAbs n < (natAbs q + 1) * m → 0 < m
+        go zero l = absurd (omega arith)
+        go (suc m) l = omega arith
+
+    size : 0 < natAbs n
+    size = lt-of-lt-of-le (mul-pos h some) (a .low)
+
+pub quotient-unique : (n d p q : ℤ) → IsQuotient n d p → IsQuotient n d q → p ≡ q
+quotient-unique n d p q a b = go p q (le-antisymm (below a b) (below b a)) (a .sign) (b .sign) (λ h. apart a h)
+  where
+    -- p and q are of one size: were one of them above zero and the other below, n d would be 0
+    clash : (z : ℤ) (m k : ℕ) → m ≡ suc k → pos 0 ≤ℤ (pos m *ℤ z) → pos 0 ≤ℤ (negsuc k *ℤ z) → 0 < natAbs z → ⊥
+    clash (pos zero) m k e h l s = omega arith
+    clash (pos (suc z)) m k e h l s = omega (kit, up-mul (negsuc k) (pos (suc z)), dn-mul (negsuc k) (pos (suc z)))
+    clash (negsuc z) zero k e h l s = omega arith
+    clash (negsuc z) (suc m) k e h l s = omega (kit, up-mul (pos (suc m)) (negsuc z), dn-mul (pos (suc m)) (negsuc z))
+
+    go : (p q : ℤ) → natAbs p ≡ natAbs q → pos 0 ≤ℤ (p *ℤ (n *ℤ d)) → pos 0 ≤ℤ (q *ℤ (n *ℤ d)) → (0 < natAbs p → 0 < natAbs (n *ℤ d)) → p ≡ q
+    go (pos m) (pos k) e h l s = ap pos e
+    go (pos m) (negsuc k) e h l s = absurd (clash (n *ℤ d) m k e h l (s (omega arith)))
+    go (negsuc m) (pos k) e h l s = absurd (clash (n *ℤ d) k m (sym e) l h (s (omega arith)))
+    go (negsuc m) (negsuc k) e h l s = ap negsuc (omega arith)
 
 -- ---- at F = 0 quotient and remainder fit together, and the remainder is smaller than the divisor
 turned : (m b : ℕ) → negℤ (pos m) *ℤ negsuc b ≡ pos (m * suc b)
