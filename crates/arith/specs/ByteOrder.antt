@@ -10,13 +10,15 @@ use lib.Dec.{eqb, lit<}
 use lib.Pow.{pow-add, pow-pos}
 use lib.IntN.{ℤ, pos, negsuc}
 use lib.Signed.{_≤ℤ_}
-use borrow.Author.Tests.{eqb-true}
+use borrow.Author.Tests.{eqb-true, eq-eqb}
+use lib.ListN.{length, length-reverse}
 use Rattle.laws.specs.Diff.{up}
 use Rattle.laws.specs.Signed.{signed as kit}
-use Rattle.format.specs.Meaning.{Sign, unsigned, isWidth, lowest, highest, wrap}
+use Rattle.format.specs.Meaning.{Sign, unsigned, isWidth, faultOf, lowest, highest, wrap, done}
+use Rattle.format.specs.Settle.{unless-none}
 use Rattle.format.specs.Theorems.{InRange, Congruent, limit-span, highest-out, wrap-in, wrap-congruent, wrap-id}
-use Rattle.format.specs.Fault.{width-bounds}
-use Rattle.arith.specs.Meaning.{leBytes, fromLe, fromBe, lowBits, littleOf, bigOf}
+use Rattle.format.specs.Fault.{width-bounds, fault-free}
+use Rattle.arith.specs.Meaning.{leBytes, fromLe, fromBe, lowBits, littleOf, bigOf, orElse, lengthFault, fromOf, swapOf}
 use Rattle.arith.specs.Bytes.{below-next, swapped-reversed}
 use Rattle.arith.specs.Theorems.{wrap-same}
 
@@ -111,3 +113,38 @@ module _ (s : Sign) (w : ℕ) (width : isWidth w ≡ true) (a : ℤ) (r : InRang
       ap (λ (x : ℕ). wrap s w (pos (fromBe 0 (leBytes (w / 8) x)))) once
       ∙ ap (λ (x : ℕ). wrap s w (pos x)) (swap-back (w / 8) (lowBits w a) held)
       ∙ raw-back w some s a r
+
+-- ---- the same of the outcomes
+pub bytes-length : (n x : ℕ) → length (leBytes n x) ≡ n
+unfolding leBytes
+bytes-length zero x = refl
+bytes-length (suc n) x = ap suc (bytes-length n (x / 256))
+
+fine : (w f n : ℕ) → faultOf w f ≡ 0 → n ≡ w / 8 → orElse (faultOf w f) (lengthFault w n) ≡ 0
+unfolding orElse lengthFault
+fine w f n e q = rw (e, eq-eqb n (w / 8) q)
+
+-- a raw of the format written and read back is the raw, in either order; and a swapped raw swapped is the raw
+module _ (s : Sign) (w f : ℕ) (free : faultOf w f ≡ 0) (a : ℤ) (r : InRange s w a) where
+  pub read-back-le : fromOf s w f (length (littleOf w a)) (fromLe (littleOf w a)) ≡ done a false
+  read-back-le =
+      unless-none (orElse (faultOf w f) (lengthFault w (length (littleOf w a)))) (done (wrap s w (pos (fromLe (littleOf w a)))) false)
+      (fine w f (length (littleOf w a)) free (bytes-length (w / 8) (lowBits w a)))
+      ∙ ap (λ (z : ℤ). done z false) (to-from-le s w (fault-free w f free .0) a r)
+
+  pub read-back-be : fromOf s w f (length (bigOf w a)) (fromBe 0 (bigOf w a)) ≡ done a false
+  read-back-be =
+      unless-none (orElse (faultOf w f) (lengthFault w (length (bigOf w a)))) (done (wrap s w (pos (fromBe 0 (bigOf w a)))) false)
+      (fine w f (length (bigOf w a)) free (length-reverse (littleOf w a) ∙ bytes-length (w / 8) (lowBits w a)))
+      ∙ ap (λ (z : ℤ). done z false) (to-from-be s w (fault-free w f free .0) a r)
+
+  pub swapped-back : (y : ℤ) → swapOf s w f a ≡ done y false → swapOf s w f y ≡ done a false
+  swapped-back y e =
+      let once = unless-none (faultOf w f) (done (wrap s w (pos (fromBe 0 (littleOf w a)))) false) free in
+      let same : wrap s w (pos (fromBe 0 (littleOf w a))) ≡ y = taken (sym once ∙ e) in
+      unless-none (faultOf w f) (done (wrap s w (pos (fromBe 0 (littleOf w y)))) false) free
+      ∙ ap (λ (z : ℤ). done (wrap s w (pos (fromBe 0 (littleOf w z)))) false) (sym same)
+      ∙ ap (λ (z : ℤ). done z false) (swap-twice s w (fault-free w f free .0) a r)
+    where
+      taken : {x y : ℤ} → done x false ≡ done y false → x ≡ y
+      taken e = cc

@@ -15,10 +15,11 @@ use Rattle.laws.specs.Order.{+ℤ-mono}
 use Rattle.laws.specs.Ring.{*ℤ-distribˡ, *ℤ-distribʳ, *ℤ-assoc}
 use Rattle.laws.specs.Signed.{signed as kit}
 use Rattle.format.specs.declared.Manner.{Manner}
+use Rattle.format.specs.declared.Manner.the-variants.{Saturating, Wrapping}
 use Rattle.format.specs.Meaning.{Sign, faultOf, settle, done, lowest, highest, hold, wrap}
 use Rattle.format.specs.Settle.{unless-none}
 use Rattle.format.specs.Theorems.{InRange, Congruent, wrap-in, wrap-congruent, wrap-only, sides, hold-in, settle-fits}
-use Rattle.arith.specs.Meaning.{negOf}
+use Rattle.arith.specs.Meaning.{addOf, negOf}
 
 -- ---- the product is rounded toward minus infinity
 pub product-floor : (a b : ℤ) (f : ℕ) → IsFloor (a *ℤ b) (2 ^ f) (floor (a *ℤ b) (2 ^ f))
@@ -127,6 +128,16 @@ negation-twice k s w f a h e r n = (
   unless-none (faultOf w f) (settle k s w (negℤ a)) e ∙ settle-fits s w (negℤ a) k h n,
   unless-none (faultOf w f) (settle k s w (negℤ (negℤ a))) e ∙ ap (settle k s w) (negℤ-negℤ a) ∙ settle-fits s w a k h r,
 )
+
+-- ---- what the manners make of the sum: the laws below speak of `wrap` and `hold`
+module _ (s : Sign) (w f : ℕ) (free : faultOf w f ≡ 0) (a b : ℤ) where
+  pub sum-wrapping : addOf Wrapping s w f a b ≡ done (wrap s w (a +ℤ b)) false
+  unfolding settle
+  sum-wrapping = unless-none (faultOf w f) (done (wrap s w (a +ℤ b)) false) free
+
+  pub sum-saturating : addOf Saturating s w f a b ≡ done (hold s w (a +ℤ b)) false
+  unfolding settle
+  sum-saturating = unless-none (faultOf w f) (done (hold s w (a +ℤ b)) false) free
 
 -- ---- wrapping: only the residues modulo 2^W of the operands count
 pub wrap-same : (s : Sign) (w : ℕ) {x y : ℤ} → 0 < w → Congruent (2 ^ w) x y → wrap s w x ≡ wrap s w y
