@@ -15,7 +15,7 @@ use Rattle.format.specs.declared.UnsignedAnswer.{UnsignedAnswer}
 use Rattle.format.specs.declared.UnsignedAnswer.the-variants.{Done as DoneU, Refused as RefusedU}
 use Rattle.format.specs.Meaning.{signed, unsigned, faultOf, settle, wrap, done, withSign, signedAnswer, unsignedAnswer, valueU}
 use Rattle.format.specs.Answer.{fault-unsigned, pass-unsigned}
-use Rattle.arith.specs.Meaning.{leBytes, fromBe, lowBits, littleOf, bigOf, orElse, roomFault, lengthFault, bufferOf, writtenOf}
+use Rattle.arith.specs.Meaning.{leBytes, fromBe, lowBits, littleOf, bigOf, orElse, roomFault, lengthFault, bufferOf}
 use Rattle.arith.specs.Bytes.{swapped-reversed}
 use Rattle.arith.specs.Promise.{Stored}
 use Rattle.arith.proofs.Signs.{one-word}

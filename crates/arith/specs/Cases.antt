@@ -1,10 +1,10 @@
 -- Document 01's cases, and the wrong answers that it rules out, computed from the meaning. Assumes nothing.
 use mathlib.Core.Path.{_≡_, refl}
 use mathlib.Core.Bool.{true, false}
-use lib.IntN.{ℤ, pos, negsuc}
+use lib.IntN.{pos, negsuc}
 use Rattle.format.specs.declared.Manner.the-variants.{Strict, Saturating, Wrapping, Overflowing}
 use Rattle.format.specs.Meaning.{signed, unsigned, isWidth, faultOf, unless, lowest, highest, fits, hold, wrap, settle, done, refused}
-use Rattle.arith.specs.Meaning.{addOf, subOf, negOf, mulOf, divOf, remOf, shlOf, shrOf, swapOf, orElse, divisorFault, pastFault, countFault, countFlag, lowBits, leBytes, fromBe}
+use Rattle.arith.specs.Meaning.{addOf, mulOf, divOf, remOf, shlOf, shrOf, swapOf, orElse, divisorFault, pastFault, countFault, countFlag, lowBits, leBytes, fromBe}
 
 module _ where
   -- "W 32, F 16, signed: maximum plus one step, wrapping, is the minimum. Bytes swapped: 0x12345678 gives 0x78563412"

@@ -1,6 +1,6 @@
 -- What is proved of the meaning, without code: the floor and the quotient are what they are called, quotient and remainder fit
 -- together, and sums, products and negation keep the laws of the integers. Assumes nothing.
-use mathlib.Core.Path.{_≡_, refl, sym, ap, ap₂, _∙_}
+use mathlib.Core.Path.{_≡_, refl, sym, ap, _∙_}
 use mathlib.Core.Bool.{false}
 use Prim.Native.Nat.{ℕ, zero, suc, _+_, _*_, _/_, _%_, _^_, _≤_, _<_}
 use native.Mathlib.Omega.{arith}
@@ -8,15 +8,15 @@ use native.Mathlib.Nat.{div-add-mod', mod-lt, mul-pos, le-antisymm, lt-of-lt-of-
 use lib.Pow.{pow-pos}
 use lib.IntN.{ℤ, pos, negsuc, negℤ, natAbs, _+ℤ_, _*ℤ_, *ℤ-comm, negℤ-negℤ}
 use lib.Signed.{quotZ, remZ, _≤ℤ_, ≤ℤ-refl}
-use Rattle.laws.specs.Diff.{up, dn, le-in, eq-in, add-out, up-neg, dn-neg, up-mul, dn-mul}
+use Rattle.laws.specs.Diff.{dn, le-in, eq-in, add-out, up-neg, dn-neg, up-mul, dn-mul}
 use Rattle.laws.specs.Bound.{abs-mul}
 use Rattle.laws.specs.Floor.{IsFloor, floor, shrZ-floor}
 use Rattle.laws.specs.Order.{+ℤ-mono}
-use Rattle.laws.specs.Ring.{*ℤ-distribˡ, *ℤ-distribʳ, *ℤ-assoc}
+use Rattle.laws.specs.Ring.{*ℤ-distribʳ, *ℤ-assoc}
 use Rattle.laws.specs.Signed.{signed as kit}
 use Rattle.format.specs.declared.Manner.{Manner}
 use Rattle.format.specs.declared.Manner.the-variants.{Saturating, Wrapping}
-use Rattle.format.specs.Meaning.{Sign, faultOf, settle, done, lowest, highest, hold, wrap}
+use Rattle.format.specs.Meaning.{Sign, faultOf, settle, done, highest, hold, wrap}
 use Rattle.format.specs.Settle.{unless-none}
 use Rattle.format.specs.Theorems.{InRange, Congruent, wrap-in, wrap-congruent, wrap-only, sides, hold-in, settle-fits}
 use Rattle.arith.specs.Meaning.{addOf, negOf}

@@ -1,11 +1,10 @@
 -- `arith::bytes::read_be` meets its contract. The invariant: what is left of the bytes, read behind r, gives the result. Assumes nothing.
 use Rattle.arith.specs.Bytes.{word-next, below-next, be-next, be-end}
-use lib.ListN.{length, take, drop}
-use mathlib.Core.List.{_++_}
-use Prim.Native.Nat.{_+_, _*_, _-_, _^_, _≤_, _<_}
-use mathlib.Core.Path.{_≡_, refl}
+use lib.ListN.{length, drop}
+use Prim.Native.Nat.{_*_, _-_, _^_, _≤_, _<_}
+use mathlib.Core.Path.{_≡_}
 use native.Mathlib.Omega.{arith}
-use Rattle.arith.specs.Meaning.{leBytes, fromLe, fromBe}
+use Rattle.arith.specs.Meaning.{fromBe}
 use borrow.Author.Needs.{needs}
 use Rattle.arith.proofs.bytes.read_be.Statement.{statement}
 use Rattle.arith.proofs.bytes.read_be.Tie as tie

@@ -1,12 +1,11 @@
 -- `arith::bytes::read_le` meets its contract. The invariant: r is the number of the bytes from i on. Assumes nothing.
 use lib.Pow.{pow-pos}
 use Rattle.arith.specs.Bytes.{word-next, below-back, le-start, le-next, le-end}
-use lib.ListN.{length, take, drop}
-use mathlib.Core.List.{_++_}
-use Prim.Native.Nat.{_+_, _*_, _-_, _^_, _≤_, _<_}
-use mathlib.Core.Path.{_≡_, refl}
+use lib.ListN.{length, drop}
+use Prim.Native.Nat.{_*_, _-_, _^_, _≤_, _<_}
+use mathlib.Core.Path.{_≡_}
 use native.Mathlib.Omega.{arith}
-use Rattle.arith.specs.Meaning.{leBytes, fromLe, fromBe}
+use Rattle.arith.specs.Meaning.{fromLe}
 use borrow.Author.Needs.{needs}
 use Rattle.arith.proofs.bytes.read_le.Statement.{statement}
 use Rattle.arith.proofs.bytes.read_le.Tie as tie

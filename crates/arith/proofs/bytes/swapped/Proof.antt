@@ -2,10 +2,10 @@
 use Prim.Native.Nat.{ℕ, _%_}
 use mathlib.Core.Path.{ap}
 use Rattle.arith.specs.Bytes.{word-next, below-next, swap-next, swap-end}
-use Prim.Native.Nat.{_+_, _*_, _-_, _^_, _≤_, _<_}
-use mathlib.Core.Path.{_≡_, refl}
+use Prim.Native.Nat.{_*_, _-_, _^_, _≤_, _<_}
+use mathlib.Core.Path.{_≡_}
 use native.Mathlib.Omega.{arith}
-use Rattle.arith.specs.Meaning.{leBytes, fromLe, fromBe}
+use Rattle.arith.specs.Meaning.{leBytes, fromBe}
 use borrow.Author.Needs.{needs}
 use Rattle.arith.proofs.bytes.swapped.Statement.{statement}
 use Rattle.arith.proofs.bytes.swapped.Tie as tie

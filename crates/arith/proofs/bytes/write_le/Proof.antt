@@ -4,10 +4,10 @@ use mathlib.Core.Path.{ap}
 use Rattle.arith.specs.Bytes.{store-next, kept-next, store-end}
 use lib.ListN.{length, take, drop}
 use mathlib.Core.List.{_++_}
-use Prim.Native.Nat.{_+_, _*_, _-_, _^_, _≤_, _<_}
+use Prim.Native.Nat.{_-_, _≤_}
 use mathlib.Core.Path.{_≡_, refl}
 use native.Mathlib.Omega.{arith}
-use Rattle.arith.specs.Meaning.{leBytes, fromLe, fromBe}
+use Rattle.arith.specs.Meaning.{leBytes}
 use borrow.Author.Needs.{needs}
 use Rattle.arith.proofs.bytes.write_le.Statement.{statement}
 use Rattle.arith.proofs.bytes.write_le.Tie as tie
