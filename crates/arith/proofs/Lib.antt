@@ -1,0 +1,5 @@
+-- What the proofs of more than one function use.
+mod Buffers
+mod Refusals
+mod Settled
+mod Signs

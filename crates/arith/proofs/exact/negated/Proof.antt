@@ -1,0 +1,10 @@
+-- `arith::exact::negated` meets its contract: the other sign. Assumes nothing.
+use Rattle.arith.proofs.Signs.{negated}
+use Rattle.arith.proofs.exact.negated.Statement.{statement}
+use Rattle.arith.proofs.exact.negated.Tie as tie
+
+returns : tie.Need-returns
+returns c = negated (c .before .args .x .neg) (c .before .args .x .size)
+
+pub negated-spec : {M : Type 1} → statement M
+negated-spec = tie.close (tie.spec returns)
