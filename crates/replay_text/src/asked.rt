@@ -15,7 +15,7 @@ pub(crate) fn differs(line: &[u64; 11], text: &[u8], length: usize) -> u64 {
 // A comment asks nothing, and another kind has no answer.
 fn question(line: &[u64; 11], text: &[u8]) -> u64 {
     match line[fields::KIND] {
-        fields::COMMENT => 0,
+        stored::COMMENT => 0,
         fields::PLAIN => plain(line, text),
         fields::LITERAL => literal(line, text),
         _ => 1,
@@ -23,9 +23,9 @@ fn question(line: &[u64; 11], text: &[u8]) -> u64 {
 }
 
 fn plain(line: &[u64; 11], text: &[u8]) -> u64 {
-    let width = small(line[fields::WIDTH]);
-    let frac = small(line[fields::FRAC]);
-    let radix = small(line[fields::RADIX]);
+    let width = stored::small(line[fields::WIDTH]);
+    let frac = stored::small(line[fields::FRAC]);
+    let radix = stored::small(line[fields::RADIX]);
     let manner = manner(line[fields::MANNER]);
     if line[fields::SIGNED] == 1 {
         return signed(line, text::signed::read(text, width, frac, radix, manner));
@@ -34,8 +34,8 @@ fn plain(line: &[u64; 11], text: &[u8]) -> u64 {
 }
 
 fn literal(line: &[u64; 11], text: &[u8]) -> u64 {
-    let width = small(line[fields::WIDTH]);
-    let frac = small(line[fields::FRAC]);
+    let width = stored::small(line[fields::WIDTH]);
+    let frac = stored::small(line[fields::FRAC]);
     if line[fields::SIGNED] == 1 {
         return signed(line, text::signed::read_literal(text, width, frac));
     }
@@ -60,10 +60,10 @@ fn unsigned(line: &[u64; 11], answer: UnsignedAnswer) -> u64 {
 
 // An answer against the one that is stored.
 fn other(line: &[u64; 11], number: u32, flag: bool, below: bool, size: u64) -> u64 {
-    if line[fields::NUMBER] != number as u64 || line[fields::FLAG] != one(flag) {
+    if line[fields::NUMBER] != number as u64 || line[fields::FLAG] != stored::one(flag) {
         return 1;
     }
-    if line[fields::BELOW] != one(below) || line[fields::VALUE] != size {
+    if line[fields::BELOW] != stored::one(below) || line[fields::VALUE] != size {
         return 1;
     }
     0
@@ -76,19 +76,4 @@ fn manner(number: u64) -> Manner {
         2 => Manner::Wrapping,
         _ => Manner::Overflowing,
     }
-}
-
-fn one(is: bool) -> u64 {
-    if is {
-        return 1;
-    }
-    0
-}
-
-// A number of 32 bits, or the greatest, which is no width, no place of the point and no radix.
-fn small(n: u64) -> u32 {
-    if n < 4294967296 {
-        return n as u32;
-    }
-    4294967295
 }

@@ -21,15 +21,10 @@ pub(crate) const TEXT: usize = 9;
 // 1 where the value is below 0.
 pub(crate) const BELOW: usize = 10;
 
-// The kinds: the letters #, l and p.
-pub(crate) const COMMENT: u64 = 35;
-
+// The kinds, beside a comment: the letters l and p.
 pub(crate) const LITERAL: u64 = 108;
 
 pub(crate) const PLAIN: u64 = 112;
-
-// The greatest number whose tenfold is a word.
-const TENTH: u64 = 1844674407370955161;
 
 // The next field starts empty. Further blanks, as a comment has, stay in the last.
 pub(crate) fn next(line: &mut [u64; 11], field: usize) -> usize {
@@ -49,7 +44,7 @@ pub(crate) fn clear(line: &mut [u64; 11]) {
 // One more byte of a field: the letter of a kind, a sign or a digit.
 pub(crate) fn put(line: &mut [u64; 11], field: usize, b: u8) {
     if field == KIND {
-        line[KIND] = wide(b);
+        line[KIND] = stored::wide(b);
         return;
     }
     if b == b'-' {
@@ -57,33 +52,14 @@ pub(crate) fn put(line: &mut [u64; 11], field: usize, b: u8) {
         return;
     }
     if field < TEXT {
-        line[field] = longer(line[field], b);
+        line[field] = stored::longer(line[field], b);
     }
-}
-
-// A number with one digit more.
-fn longer(n: u64, b: u8) -> u64 {
-    if n <= TENTH {
-        return std::num::wrapping_add_u64(n * 10, digit(b));
-    }
-    0
 }
 
 // 1 of an answer, 0 of a comment.
 pub(crate) fn told(line: &[u64; 11]) -> u64 {
-    if line[KIND] == COMMENT {
+    if line[KIND] == stored::COMMENT {
         return 0;
     }
     1
-}
-
-fn digit(b: u8) -> u64 {
-    if b >= b'0' {
-        return wide(b - b'0');
-    }
-    0
-}
-
-fn wide(b: u8) -> u64 {
-    b as u64
 }

@@ -4,9 +4,7 @@ mod asked;
 mod fields;
 mod hex;
 
-use libc::STDOUT_FILENO;
-
-// Where the walk stands: the field of the line, the hexadecimal digits of its text so far; and the lines told apart.
+// Where the walk stands: the field of the line, the hexadecimal digits of its text so far; and what the lines before it told.
 struct Place {
     field: usize,
     digits: usize,
@@ -21,10 +19,7 @@ fn main() {
     let fd = os::open_read(b"text.txt");
     let end = whole(fd);
     libc::close(fd);
-    io::print_decimal(STDOUT_FILENO, end.answers);
-    io::write_all(STDOUT_FILENO, b" answers replayed, ");
-    io::print_decimal(STDOUT_FILENO, end.differ);
-    io::write_all(STDOUT_FILENO, b" differ\n");
+    stored::write(end.answers, end.differ);
 }
 
 fn whole(fd: i32) -> Place {
