@@ -10,6 +10,7 @@ pub(crate) const NUMBER: usize = 3;
 pub(crate) const VALUE: usize = 4;
 
 pub(crate) const RAW: usize = 5;
+
 // From here on, 1 for each field that is below 0.
 pub(crate) const BELOW: usize = 6;
 

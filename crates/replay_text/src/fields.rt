@@ -18,6 +18,7 @@ pub(crate) const FLAG: usize = 7;
 pub(crate) const VALUE: usize = 8;
 
 pub(crate) const TEXT: usize = 9;
+
 // 1 where the value is below 0.
 pub(crate) const BELOW: usize = 10;
 

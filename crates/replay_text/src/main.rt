@@ -12,7 +12,7 @@ struct Place {
     differ: u64,
 }
 
-// Pieces of 65,536 bytes that are read at most: room for a sample four times as long.
+// Pieces of 65,536 bytes that are read at most: room for a sample three times as long.
 const PIECES: u64 = 64;
 
 fn main() {
