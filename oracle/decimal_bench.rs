@@ -1,0 +1,83 @@
+// The writer's speed against Rust's own formatting of an integer with as many digits, in one process. Built and run by oracle/decimal_bench.sh.
+
+use std::hint::black_box;
+use std::io::Write;
+use std::time::Instant;
+
+#[repr(C)]
+struct Unsigned {
+    number: u32,
+    flag: u32,
+    value: u64,
+}
+
+extern "C" {
+    fn tq_write_signed(raw: i64, width: u32, frac: u32, out: *mut u8, len: usize) -> Unsigned;
+}
+
+const RAWS: usize = 4096;
+// Both sides take turns; the fastest round of each counts, since everything else on the machine only slows one down.
+const ROUNDS: usize = 200;
+
+// Nanoseconds for each of the numbers.
+fn round<T: Copy>(numbers: &[T], write: impl Fn(T, &mut [u8; 67])) -> f64 {
+    let mut out = [0u8; 67];
+    let start = Instant::now();
+    for n in numbers {
+        write(black_box(*n), black_box(&mut out));
+    }
+    start.elapsed().as_secs_f64() * 1e9 / numbers.len() as f64
+}
+
+fn port(raw: i64, width: u32, frac: u32, out: &mut [u8; 67]) -> Unsigned {
+    unsafe { tq_write_signed(raw, width, frac, out.as_mut_ptr(), out.len()) }
+}
+
+fn formatted(n: u128, out: &mut [u8; 67]) {
+    let mut rest = &mut out[..];
+    // a word is formatted as a word: the wider type is for what no word holds
+    match u64::try_from(n) {
+        Ok(word) => write!(rest, "{word}"),
+        Err(_) => write!(rest, "{n}"),
+    }
+    .unwrap();
+}
+
+// The integer whose digits are those of the text: what Rust would have to format.
+fn digits(text: &[u8]) -> u128 {
+    text.iter().filter(|b| b.is_ascii_digit()).fold(0, |n, b| n * 10 + u128::from(b - b'0'))
+}
+
+fn main() {
+    let mut x: u64 = 0x9e37_79b9_7f4a_7c15;
+    for (width, frac) in [(8, 7), (16, 15), (32, 0), (32, 16), (64, 0), (64, 20)] {
+        let mut raws = Vec::new();
+        let mut integers = Vec::new();
+        let mut length = 0;
+        while raws.len() < RAWS {
+            x ^= x << 13;
+            x ^= x >> 7;
+            x ^= x << 17;
+            // odd, so that no digit of the fraction is missing; positive, since the integers have no sign
+            let raw = (x >> (65 - width) | 1) as i64;
+            let mut out = [0u8; 67];
+            let answer = port(raw, width, frac, &mut out);
+            assert_eq!((answer.number, answer.flag), (0, 0), "raw {raw}, W = {width}, F = {frac}");
+            let n = answer.value as usize;
+            // a leading 1 in place of a leading zero keeps the integer's length
+            let lead = if out[0] == b'0' { 10u128.pow(frac) } else { 0 };
+            integers.push(digits(&out[..n]) + lead);
+            raws.push(raw);
+            length += n;
+        }
+        let (mut of_rust, mut of_port) = (f64::MAX, f64::MAX);
+        for _ in 0..ROUNDS {
+            of_rust = of_rust.min(round(&integers, formatted));
+            of_port = of_port.min(round(&raws, |raw, out| {
+                black_box(port(raw, width, frac, out));
+            }));
+        }
+        let mean = length as f64 / RAWS as f64;
+        println!("W = {width}, F = {frac}, {mean:.1} bytes: ratio {:.2}", of_port / of_rust);
+    }
+}
