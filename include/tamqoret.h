@@ -52,6 +52,7 @@ enum {
     TQ_EXP_NO_DIGITS = 17, /* a mark with no digit after it */
     TQ_TOO_MANY_EXP = 18,
     TQ_EXP_OVERFLOW = 19,  /* the exponent is outside -2^31 to 2^31 - 1 */
+    TQ_ZERO_DIVISOR = 31,
     TQ_NOT_POSITIVE = 32,  /* logarithm of zero or of a negative number */
     TQ_WRONG_TAPS = 40     /* taps not 1 to 64 */
 };
@@ -76,6 +77,41 @@ tq_unsigned tq_write_unsigned(uint64_t raw, uint32_t width, uint32_t frac, uint8
 /* The greatest k with 10^k <= raw / 2^frac, as value; TQ_NOT_POSITIVE where there is none. */
 tq_signed tq_log10_signed(int64_t raw, uint32_t width, uint32_t frac);
 tq_signed tq_log10_unsigned(uint64_t raw, uint32_t width, uint32_t frac);
+
+/* Arithmetic on raws of one format, in a manner. The exact result is taken first, then the manner: the product is a * b / 2^frac rounded
+ * toward minus infinity, the quotient a * 2^frac / b rounded toward zero, the remainder has the dividend's sign. TQ_ZERO_DIVISOR for a zero divisor. */
+tq_signed tq_add_signed(int64_t a, int64_t b, uint32_t width, uint32_t frac, uint32_t manner);
+tq_unsigned tq_add_unsigned(uint64_t a, uint64_t b, uint32_t width, uint32_t frac, uint32_t manner);
+tq_signed tq_sub_signed(int64_t a, int64_t b, uint32_t width, uint32_t frac, uint32_t manner);
+tq_unsigned tq_sub_unsigned(uint64_t a, uint64_t b, uint32_t width, uint32_t frac, uint32_t manner);
+tq_signed tq_mul_signed(int64_t a, int64_t b, uint32_t width, uint32_t frac, uint32_t manner);
+tq_unsigned tq_mul_unsigned(uint64_t a, uint64_t b, uint32_t width, uint32_t frac, uint32_t manner);
+tq_signed tq_div_signed(int64_t a, int64_t b, uint32_t width, uint32_t frac, uint32_t manner);
+tq_unsigned tq_div_unsigned(uint64_t a, uint64_t b, uint32_t width, uint32_t frac, uint32_t manner);
+tq_signed tq_rem_signed(int64_t a, int64_t b, uint32_t width, uint32_t frac, uint32_t manner);
+tq_unsigned tq_rem_unsigned(uint64_t a, uint64_t b, uint32_t width, uint32_t frac, uint32_t manner);
+tq_signed tq_neg_signed(int64_t a, uint32_t width, uint32_t frac, uint32_t manner);
+tq_unsigned tq_neg_unsigned(uint64_t a, uint32_t width, uint32_t frac, uint32_t manner);
+
+/* Shifts by the count modulo the width; bits that leave are lost. A count not below the width is TQ_OVERFLOW when strict, and sets the flag
+ * when overflowing. There is no saturating shift: TQ_SATURATING is strict here. */
+tq_signed tq_shl_signed(int64_t a, uint32_t count, uint32_t width, uint32_t frac, uint32_t manner);
+tq_unsigned tq_shl_unsigned(uint64_t a, uint32_t count, uint32_t width, uint32_t frac, uint32_t manner);
+tq_signed tq_shr_signed(int64_t a, uint32_t count, uint32_t width, uint32_t frac, uint32_t manner);
+tq_unsigned tq_shr_unsigned(uint64_t a, uint32_t count, uint32_t width, uint32_t frac, uint32_t manner);
+
+/* Byte order, on the width / 8 bytes of a raw. The value of tq_to_*_bytes is the number of bytes written; a shorter buffer is TQ_WRONG_LENGTH.
+ * tq_from_*_bytes wants exactly width / 8 bytes, else TQ_WRONG_LENGTH. */
+tq_signed tq_swap_bytes_signed(int64_t a, uint32_t width, uint32_t frac);
+tq_unsigned tq_swap_bytes_unsigned(uint64_t a, uint32_t width, uint32_t frac);
+tq_unsigned tq_to_be_bytes_signed(int64_t a, uint32_t width, uint32_t frac, uint8_t *out, size_t len);
+tq_unsigned tq_to_be_bytes_unsigned(uint64_t a, uint32_t width, uint32_t frac, uint8_t *out, size_t len);
+tq_unsigned tq_to_le_bytes_signed(int64_t a, uint32_t width, uint32_t frac, uint8_t *out, size_t len);
+tq_unsigned tq_to_le_bytes_unsigned(uint64_t a, uint32_t width, uint32_t frac, uint8_t *out, size_t len);
+tq_signed tq_from_be_bytes_signed(const uint8_t *bytes, size_t len, uint32_t width, uint32_t frac);
+tq_unsigned tq_from_be_bytes_unsigned(const uint8_t *bytes, size_t len, uint32_t width, uint32_t frac);
+tq_signed tq_from_le_bytes_signed(const uint8_t *bytes, size_t len, uint32_t width, uint32_t frac);
+tq_unsigned tq_from_le_bytes_unsigned(const uint8_t *bytes, size_t len, uint32_t width, uint32_t frac);
 
 /* The filter's state: the last 64 samples, newest first. All 0 at the start. */
 typedef struct {

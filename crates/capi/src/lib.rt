@@ -1,5 +1,7 @@
 // The C interface: each function calls one public function of the library and copies its answer (include/tamqoret.h).
 mod answer;
+pub mod c_arith;
+pub mod c_bytes;
 pub mod c_filter;
 pub mod c_log10;
 pub mod c_read;
