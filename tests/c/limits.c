@@ -47,6 +47,34 @@ static void log10_limits(void)
     check(tq_log10_unsigned(1, 64, 64).value == -20, "log10: smallest", 20, 20);
 }
 
+/* The largest raw plus one step in each manner, the least over -1, a zero divisor after the format, shifts at the width, bytes. */
+static void arith_limits(void)
+{
+    check(tq_add_signed(32767, 1, 16, 15, TQ_STRICT).number == TQ_OVERFLOW, "add: strict", 0, TQ_OVERFLOW);
+    check(tq_add_signed(32767, 1, 16, 15, TQ_SATURATING).value == 32767, "add: saturating", 0, 32767);
+    check(tq_add_signed(32767, 1, 16, 15, TQ_WRAPPING).value == -32768, "add: wrapping", 0, 0);
+    tq_signed over = tq_add_signed(32767, 1, 16, 15, TQ_OVERFLOWING);
+    check(over.value == -32768 && over.flag == 1, "add: overflowing", over.flag, 1);
+    tq_signed least = tq_div_signed(INT64_MIN, -1, 64, 0, TQ_SATURATING);
+    check(least.value == INT64_MAX && least.number == 0, "div: least over -1", least.number, 0);
+    check(tq_mul_signed(-1, 1, 16, 15, TQ_STRICT).value == -1, "mul: toward minus infinity", 0, 1);
+    check(tq_div_signed(-1, 2, 16, 0, TQ_STRICT).value == 0, "div: toward zero", 0, 0);
+    check(tq_rem_signed(-7, 4, 16, 0, TQ_STRICT).value == -3, "rem: the dividend's sign", 0, 3);
+    check(tq_div_unsigned(1, 0, 16, 0, TQ_STRICT).number == TQ_ZERO_DIVISOR, "div: by 0", 0, TQ_ZERO_DIVISOR);
+    check(tq_div_unsigned(1, 0, 9, 0, TQ_STRICT).number == TQ_WRONG_WIDTH, "div: width before 0", 0, TQ_WRONG_WIDTH);
+    check(tq_rem_unsigned(1, 0, 16, 17, TQ_STRICT).number == TQ_WRONG_FRAC, "rem: frac before 0", 0, TQ_WRONG_FRAC);
+    check(tq_shl_unsigned(1, 8, 8, 0, TQ_STRICT).number == TQ_OVERFLOW, "shl: by the width", 0, TQ_OVERFLOW);
+    check(tq_shl_unsigned(1, 8, 8, 0, TQ_SATURATING).number == TQ_OVERFLOW, "shl: not saturating", 0, TQ_OVERFLOW);
+    tq_unsigned turned = tq_shl_unsigned(1, UINT32_MAX, 8, 0, TQ_OVERFLOWING);
+    check(turned.value == 128 && turned.flag == 1, "shl: modulo the width", turned.value, 128);
+    check(tq_swap_bytes_unsigned(0x1234, 16, 8).value == 0x3412, "swap", 0, 0x3412);
+    uint8_t out[3] = {0x5a, 0x5a, 0x5a};
+    check(tq_to_be_bytes_signed(-2, 16, 0, out, 1).number == TQ_WRONG_LENGTH && out[0] == 0x5a, "to bytes: room", out[0], 0x5a);
+    check(tq_to_be_bytes_signed(-2, 16, 0, out, 3).value == 2 && out[0] == 0xff && out[1] == 0xfe && out[2] == 0x5a, "to bytes", out[1], 0xfe);
+    check(tq_from_be_bytes_signed(out, 2, 16, 0).value == -2, "from bytes", 0, 2);
+    check(tq_from_be_bytes_signed(out, 3, 16, 0).number == TQ_WRONG_LENGTH, "from bytes: length", 0, TQ_WRONG_LENGTH);
+}
+
 int main(void)
 {
     for (int i = 0; i <= MOST; i++)
@@ -66,5 +94,6 @@ int main(void)
     filter(MOST, 8, 8, 8, 0);
     filter(MOST + 1, 8, 8, 8, 40);
     log10_limits();
+    arith_limits();
     return finish();
 }
