@@ -3,8 +3,8 @@ use mir.Facts.{toZ-ofZ}
 use mir.Syntax.{w64}
 use Rattle.round_trip.specs.Again.{read-again, never-refused}
 use borrow.Author.Needs.{needs}
-use Rattle.round_trip.proofs.again.Statement.{statement}
-use Rattle.round_trip.proofs.again.Tie as tie
+use Rattle.round_trip.proofs.signed.again.Statement.{statement}
+use Rattle.round_trip.proofs.signed.again.Tie as tie
 
 write-requires : tie.Need-write-requires
 write-requires c κs = search needs
