@@ -1,18 +1,36 @@
 #!/usr/bin/env python3
-"""oracle/faults.py ARCHIVE FOLDER: copies of libcapi.a with one constant of the machine code changed (x86-64), for seeing that the runs notice.
+"""oracle/faults.py ARCHIVE FOLDER [run]: copies of libcapi.a with one constant of the machine code changed (x86-64), for seeing that the runs notice.
 
 Writes FOLDER/NAME.a for each fault. A constant may stand in the code several times, all of them are changed; a fault whose constant is not
-found is said so, and then the compiler has made other code of it. Then, for each: oracle/run - --port FOLDER/NAME.a --longest 4 all
+found is said so, and then the compiler has made other code of it. With `run` the comparison with the exact model is made with each copy, and
+the runs that noticed are printed; a fault of NOTICED that no run notices is a failure, and so is one of EQUAL that one does.
 """
 import pathlib
+import re
+import subprocess
 import sys
 
-DIVISOR = 14901161193847656250  # text::prefix
+# text::prefix: the divisor, its negative and its double modulo 2^64, and the reciprocal of its upper half times 2^95
+DIVISOR = 14901161193847656250
+NEGATIVE = 2**64 - DIVISOR
+DOUBLE = 2 * DIVISOR - 2**64
+RECIPROCAL = 0x9E74D1B84CEFF5A5
+
+
+def word(constant, by):
+    """A constant of 64 bits, changed by so much."""
+    return [(constant.to_bytes(8, "little"), (constant + by).to_bytes(8, "little"))]
+
 
 # name: the bytes as they stand, and as they are put
-FAULTS = {
-    "divisor": [((DIVISOR).to_bytes(8, "little"), (DIVISOR + 2**40).to_bytes(8, "little"))],
-    "power_of_ten": [((10**18).to_bytes(8, "little"), (10**18 + 1).to_bytes(8, "little"))],
+NOTICED = {
+    "divisor": word(DIVISOR, 2**40),
+    "divisor_less": word(DIVISOR, -1),
+    "divisor_64": word(DIVISOR, 64),
+    "double_64": word(DOUBLE, 64),
+    "reciprocal": word(RECIPROCAL, 1),
+    "reciprocal_less": word(RECIPROCAL, -(2**30)),
+    "power_of_ten": word(10**18, 1),
     # cmp $imm32,%rsi: the longest text
     "limit": [(b"\x48\x81\xfe" + (4096).to_bytes(4, "little"), b"\x48\x81\xfe" + (4095).to_bytes(4, "little"))],
     # cmp $imm8,%r14b and %r15b: an underscore, the digit 9
@@ -20,23 +38,61 @@ FAULTS = {
     "nine": [(b"\x41\x80\xfe\x39", b"\x41\x80\xfe\x38"), (b"\x41\x80\xff\x39", b"\x41\x80\xff\x38")],
 }
 
+# changes that change no answer; oracle/README.md says why
+EQUAL = {
+    "divisor_1": word(DIVISOR, 1),
+    "divisor_63": word(DIVISOR, 63),
+    "negative_1": word(NEGATIVE, 1),
+    "double_1": word(DOUBLE, 1),
+    "double_63": word(DOUBLE, 63),
+    "reciprocal_2_20": word(RECIPROCAL, -(2**20)),
+    "reciprocal_2_29": word(RECIPROCAL, -(2**29)),
+}
 
-def main(archive, folder):
+
+def write(archive, target, name, changes):
+    """The copy with the fault, or None where the constant does not stand in the archive."""
     code = pathlib.Path(archive).read_bytes()
+    changed = code
+    for old, new in changes:
+        changed = changed.replace(old, new)
+    if changed == code:
+        print(f"{name}: the constant does not stand in {archive}; nothing is written")
+        return None
+    copy = target / f"{name}.a"
+    copy.write_bytes(changed)
+    print(f"{name}: {sum(code.count(old) for old, _ in changes)} places changed", flush=True)
+    return copy
+
+
+def noticed(copy):
+    """The runs that fail with this copy, each with its failed answers."""
+    run = [str(pathlib.Path(__file__).parent / "run"), "-", "--port", str(copy), "--longest", "4", "all"]
+    told = subprocess.run(run, capture_output=True, text=True, check=False).stdout
+    if not re.search(r"^\d+ passed, \d+ failed$", told, re.M):
+        return ["it broke off"]
+    counts = re.findall(r"^(\w+): \d+ texts, \d+ answers compared, (\d+) failed", told, re.M)
+    return [f"{name} {int(failed):,}" for name, failed in counts if failed != "0"]
+
+
+def main(archive, folder, *run):
     target = pathlib.Path(folder)
     target.mkdir(parents=True, exist_ok=True)
-    for name, changes in FAULTS.items():
-        changed = code
-        for old, new in changes:
-            changed = changed.replace(old, new)
-        if changed == code:
-            print(f"{name}: the constant does not stand in {archive}; nothing is written")
-            continue
-        (target / f"{name}.a").write_bytes(changed)
-        print(f"{name}: {sum(code.count(old) for old, _ in changes)} places changed")
+    wrong = 0
+    for name, changes in (NOTICED | EQUAL).items():
+        copy = write(archive, target, name, changes)
+        if copy is None:
+            wrong += 1
+        elif run:
+            found = noticed(copy)
+            print(f"  {', '.join(found) or 'no run'}", flush=True)
+            wrong += bool(found) != (name in NOTICED)
+    if run:
+        print(f"{len(NOTICED | EQUAL) - wrong} passed, {wrong} failed")
+    return wrong > 0
 
 
 if __name__ == "__main__":
-    if len(sys.argv) != 3:
+    if len(sys.argv) not in (3, 4) or sys.argv[3:] not in ([], ["run"]):
         sys.exit(__doc__)
-    main(*sys.argv[1:])
+    sys.exit(main(*sys.argv[1:]))

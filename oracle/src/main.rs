@@ -3,6 +3,7 @@
 mod bench;
 mod classes;
 mod compare;
+mod division;
 mod format;
 mod model;
 mod natural;

@@ -21,7 +21,7 @@ pub fn near(random: &mut Random, radix: u32, whole: &[u8], fraction: &[u8]) -> V
 }
 
 /// The digits with the last one smaller and larger by one, where there is such a digit.
-fn neighbours(radix: u32, fraction: &[u8]) -> Vec<Vec<u8>> {
+pub fn neighbours(radix: u32, fraction: &[u8]) -> Vec<Vec<u8>> {
     let Some((last, before)) = fraction.split_last() else {
         return Vec::new();
     };

@@ -1,6 +1,7 @@
 //! The runs: each looks at one kind of text.
 
 use crate::compare::Tally;
+use crate::division;
 use crate::format::{Format, LONGEST_TEXT, MANNERS, RADIXES, Reader, STRICT};
 use crate::near;
 use crate::picks::{
@@ -19,7 +20,7 @@ pub struct Effort {
 
 type Run = fn(&mut Tally, &Effort);
 
-pub const RUNS: [(&str, Run); 13] = [
+pub const RUNS: [(&str, Run); 14] = [
     ("short", short),
     ("formats", formats),
     ("bytes", bytes),
@@ -27,6 +28,7 @@ pub const RUNS: [(&str, Run); 13] = [
     ("ties", ties),
     ("ends", ends),
     ("tails", tails),
+    ("division", division),
     ("exponents", exponents),
     ("literals", literals),
     ("damaged", damaged),
@@ -142,6 +144,15 @@ fn tails(tally: &mut Tally, effort: &Effort) {
             let tails = near::with_tail(radix, &whole, &fraction, random.below(longest));
             tails.iter().for_each(|text| tally.text(text, Some(radix), &both_signs(width, frac)));
         }
+    }
+}
+
+/// Fractions at the corners of the division of the first 27 digits, for every F.
+fn division(tally: &mut Tally, effort: &Effort) {
+    let mut random = Random::new(effort.seed + 7);
+    for frac in 0..=64 {
+        let texts = division::fractions(&mut random, frac, 40 * effort.times);
+        texts.iter().for_each(|text| tally.text(text, Some(10), &both_signs(64, frac)));
     }
 }
 
