@@ -10,8 +10,11 @@ use lib.Pow.{pow-mono, shl-exact}
 use lib.Arith.{digits-lt}
 use lib.Dec.{ltb}
 use borrow.Author.Tests.{le-ltb, ltb-true, ltb-false}
-use lib.IntN.{ℤ, pos, negsuc, negℤ, natAbs, _+ℤ_, _*ℤ_, +ℤ-comm, negℤ-negℤ}
+use lib.IntN.{ℤ, pos, negsuc, negℤ, natAbs, _+ℤ_, _-ℤ_, _*ℤ_, +ℤ-comm, negℤ-negℤ}
 use lib.Signed.{ltZ, quotZ, remZ}
+use mir.Syntax.{w64}
+use mir.Val.{SFits}
+use Rattle.laws.specs.Bound.{abs-add, abs-sfits}
 use Rattle.laws.specs.Diff.{add-out, eq-in, up-mul, dn-mul, up-neg, dn-neg}
 use Rattle.laws.specs.Floor.{floor}
 use Rattle.laws.specs.Signed.{signed as kit}
@@ -137,6 +140,13 @@ remainder-sign n m a b e = ap (withSign n) (e ∙ ap (λ (k : ℕ). a % k) (sym 
     of true zero d = rw (zero-mod (natAbs d))
     of true (suc a) d = refl
     of false a d = refl
+
+-- a sum of magnitudes below 2^62 is a signed word, and so is a difference
+pub sum-fits : (n m : Bool) (s t : ℕ) {a b : ℤ} → withSign n s ≡ a → withSign m t ≡ b → s < 2 ^ 62 → t < 2 ^ 62 → SFits w64 (a +ℤ b)
+sum-fits n m s t {a} {b} p q h k = abs-sfits w64 (a +ℤ b) (omega (arith, abs-add a b, abs-sign n s, abs-sign m t, ap natAbs p, ap natAbs q))
+
+pub difference-fits : (n m : Bool) (s t : ℕ) {a b : ℤ} → withSign n s ≡ a → withSign m t ≡ b → s < 2 ^ 62 → t < 2 ^ 62 → SFits w64 (a -ℤ b)
+difference-fits n m s t p q h k = sum-fits n (not m) s t p (negated m t ∙ ap negℤ q) h k
 
 -- a result of one word
 pub one-word : (n : Bool) (a : ℕ) → withSign n (0 * 2 ^ 64 + a) ≡ withSign n a

@@ -96,6 +96,37 @@ pub fn sum(x: Number, y: Number) -> Exact
     }
 }
 
+// Magnitudes below this add up, with any signs, to a signed word.
+const ADDS_UP: u64 = 0x4000_0000_0000_0000;
+
+// a + b, with no branch on a sign where a signed word holds it: every sum of the narrow widths.
+pub fn signed_sum(a: i64, b: i64) -> Exact
+    ensures { λ r. ⌜ exactOf r ≡ a +ℤ b ⌝ }
+{
+    let x = of_signed(a);
+    let y = of_signed(b);
+    if x.size < ADDS_UP {
+        if y.size < ADDS_UP {
+            return of_number(of_signed(a + b));
+        }
+    }
+    sum(x, y)
+}
+
+// a - b, the same way.
+pub fn signed_difference(a: i64, b: i64) -> Exact
+    ensures { λ r. ⌜ exactOf r ≡ a +ℤ negℤ b ⌝ }
+{
+    let x = of_signed(a);
+    let y = of_signed(b);
+    if x.size < ADDS_UP {
+        if y.size < ADDS_UP {
+            return of_number(of_signed(a - b));
+        }
+    }
+    sum(x, negated(y))
+}
+
 // x * y / 2^frac, rounded toward minus infinity.
 pub fn product(x: Number, y: Number, frac: u32) -> Exact
     ensures { λ r. ⌜ exactOf r ≡ floorOf (numberOf x *ℤ numberOf y) (2 ^ frac) ⌝ }

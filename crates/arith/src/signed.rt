@@ -14,7 +14,7 @@ use format::UnsignedAnswer;
 pub fn add(a: i64, b: i64, width: u32, frac: u32, manner: Manner) -> SignedAnswer
     ensures { λ r. ⌜ SignedAdd a b width frac manner r ⌝ }
 {
-    let x = exact::sum(exact::of_signed(a), exact::of_signed(b));
+    let x = exact::signed_sum(a, b);
     format::signed::settle(x.neg, x.high, x.low, width, frac, manner)
 }
 
@@ -22,7 +22,7 @@ pub fn add(a: i64, b: i64, width: u32, frac: u32, manner: Manner) -> SignedAnswe
 pub fn sub(a: i64, b: i64, width: u32, frac: u32, manner: Manner) -> SignedAnswer
     ensures { λ r. ⌜ SignedSub a b width frac manner r ⌝ }
 {
-    let x = exact::sum(exact::of_signed(a), exact::negated(exact::of_signed(b)));
+    let x = exact::signed_difference(a, b);
     format::signed::settle(x.neg, x.high, x.low, width, frac, manner)
 }
 

@@ -1,31 +1,23 @@
 -- `arith::signed::add` meets its promise: the exact sum, settled. Assumes nothing.
-use mathlib.Core.Path.{_∙_}
+use mathlib.Core.Path.{_∙_, ap₂}
 use mir.Syntax.{w64}
 use mir.Facts.{toZ-ofZ}
-use lib.IntN.{_+ℤ_}
-use Rattle.arith.proofs.Signs.{via₂}
+use lib.IntN.{ℤ, negℤ, _+ℤ_}
 use Rattle.arith.proofs.Settled.{settled-signed}
 use borrow.Author.Needs.{needs}
 use Rattle.arith.proofs.signed.add.Statement.{statement}
 use Rattle.arith.proofs.signed.add.Tie as tie
 
-of-signed-requires : tie.Need-of-signed-requires
-of-signed-requires c κs = search needs
-
-of-signed-requires-2 : tie.Need-of-signed-requires-2
-of-signed-requires-2 c κs = search needs
-
-sum-requires : tie.Need-sum-requires
-sum-requires c κs = search needs
+signed-sum-requires : tie.Need-signed-sum-requires
+signed-sum-requires c κs = search needs
 
 settle-requires : tie.Need-settle-requires
 settle-requires c κs = search needs
 
 returns : tie.Need-returns
 returns c =
-    settled-signed _ _ _ (via₂ _+ℤ_ (c .before .before .before .of-signed .ensures ∙ toZ-ofZ {w = w64} (c .before .before .before .before .fits .a)) (c .before .before .of-signed2 .ensures ∙ toZ-ofZ {w = w64} (c .before .before .before .before .fits .b)) (c .before .sum .ensures)) (c .settle .ensures)
+    let fits = c .before .before .fits in
+    settled-signed _ _ _ (c .before .signed-sum .ensures ∙ ap₂ _+ℤ_ (toZ-ofZ {w = w64} (fits .a)) (toZ-ofZ {w = w64} (fits .b))) (c .settle .ensures)
 
 pub add-spec : {M : Type 1} → statement M
-add-spec =
-    tie.close
-    (tie.spec of-signed-requires of-signed-requires-2 sum-requires settle-requires returns)
+add-spec = tie.close (tie.spec signed-sum-requires settle-requires returns)
