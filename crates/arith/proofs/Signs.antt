@@ -13,8 +13,9 @@ use borrow.Author.Tests.{le-ltb, ltb-true, ltb-false}
 use lib.IntN.{ℤ, pos, negsuc, negℤ, natAbs, _+ℤ_, _-ℤ_, _*ℤ_, +ℤ-comm, negℤ-negℤ}
 use lib.Signed.{ltZ, quotZ, remZ}
 use mir.Syntax.{w64}
-use mir.Val.{SFits}
-use Rattle.laws.specs.Bound.{abs-add, abs-sfits}
+use mir.Val.{SFits, toZ, ofZ}
+use mir.Facts.{toZ-ofZ}
+use Rattle.laws.specs.Bound.{abs-add, abs-mul-le, abs-sfits}
 use Rattle.laws.specs.Diff.{add-out, eq-in, up-mul, dn-mul, up-neg, dn-neg}
 use Rattle.laws.specs.Floor.{floor}
 use Rattle.laws.specs.Signed.{signed as kit}
@@ -147,6 +148,21 @@ sum-fits n m s t {a} {b} p q h k = abs-sfits w64 (a +ℤ b) (omega (arith, abs-a
 
 pub difference-fits : (n m : Bool) (s t : ℕ) {a b : ℤ} → withSign n s ≡ a → withSign m t ≡ b → s < 2 ^ 62 → t < 2 ^ 62 → SFits w64 (a -ℤ b)
 difference-fits n m s t p q h k = sum-fits n (not m) s t p (negated m t ∙ ap negℤ q) h k
+
+-- a product of magnitudes up to 2^31 is a signed word
+pub product-fits : (n m : Bool) (s t : ℕ) {a b : ℤ} → withSign n s ≡ a → withSign m t ≡ b → s ≤ 2 ^ 31 → t ≤ 2 ^ 31 → SFits w64 (a *ℤ b)
+product-fits n m s t {a} {b} p q h k =
+    let first : natAbs a ≤ 2 ^ 31 = omega (arith, abs-sign n s, ap natAbs p) in
+    let second : natAbs b ≤ 2 ^ 31 = omega (arith, abs-sign m t, ap natAbs q) in
+    abs-sfits w64 (a *ℤ b) (omega (arith, abs-mul-le a b first second))
+
+-- what the machine reads back of a signed word that was shifted to the right is the floor
+shift-fits : (z : ℤ) (m : ℕ) → SFits w64 z → SFits w64 (floor z m)
+shift-fits (pos a) m f = record { sfits = lt-of-le-of-lt (div-le-self a m) (f .sfits) }
+shift-fits (negsuc a) m f = record { sfits = lt-of-le-of-lt (div-le-self a m) (f .sfits) }
+
+pub shifted-back : {z : ℤ} (m : ℕ) → SFits w64 z → toZ w64 (ofZ w64 (floor (toZ w64 (ofZ w64 z)) m)) ≡ floor z m
+shifted-back {z} m f = ap (λ (y : ℤ). toZ w64 (ofZ w64 (floor y m))) (toZ-ofZ f) ∙ toZ-ofZ {w = w64} (shift-fits z m f)
 
 -- a result of one word
 pub one-word : (n : Bool) (a : ℕ) → withSign n (0 * 2 ^ 64 + a) ≡ withSign n a

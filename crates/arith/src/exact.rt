@@ -135,6 +135,25 @@ pub fn product(x: Number, y: Number, frac: u32) -> Exact
     floor(x.neg != y.neg, p.high, p.low, frac)
 }
 
+// Magnitudes up to this, with any signs, have a signed word as their product.
+const MULTIPLIES: u64 = 0x8000_0000;
+
+// a * b / 2^frac, rounded toward minus infinity: one multiplication and one shift for numbers that fit 32 bits, so for every product of the narrow widths.
+pub fn signed_product(a: i64, b: i64, frac: u32) -> Exact
+    ensures { λ r. ⌜ exactOf r ≡ floorOf (a *ℤ b) (2 ^ frac) ⌝ }
+{
+    let x = of_signed(a);
+    let y = of_signed(b);
+    if x.size <= MULTIPLIES {
+        if y.size <= MULTIPLIES {
+            if frac < 64 {
+                return of_number(of_signed((a * b) >> frac));
+            }
+        }
+    }
+    product(x, y, frac)
+}
+
 // The number of this sign and two words, divided by 2^k and rounded toward minus infinity.
 pub fn floor(neg: bool, high: u64, low: u64, k: u32) -> Exact
     ensures { λ r. ⌜ exactOf r ≡ floorOf (exact neg high low) (2 ^ k) ⌝ }

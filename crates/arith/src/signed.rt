@@ -38,7 +38,7 @@ pub fn neg(a: i64, width: u32, frac: u32, manner: Manner) -> SignedAnswer
 pub fn mul(a: i64, b: i64, width: u32, frac: u32, manner: Manner) -> SignedAnswer
     ensures { λ r. ⌜ SignedMul a b width frac manner r ⌝ }
 {
-    let x = exact::product(exact::of_signed(a), exact::of_signed(b), frac);
+    let x = exact::signed_product(a, b, frac);
     format::signed::settle(x.neg, x.high, x.low, width, frac, manner)
 }
 
