@@ -1,17 +1,9 @@
-// Compares the archive's writer with an exact model, written here from document 01's words. Built and run by oracle/decimal.sh.
+// Compares the archive's writer with an exact model, written here from document 01's words. Built and run by oracle/program.
 
-#[repr(C)]
-#[derive(Clone, Copy, Debug, PartialEq)]
-struct Unsigned {
-    number: u32,
-    flag: u32,
-    value: u64,
-}
+#[path = "capi.rs"]
+mod capi;
 
-extern "C" {
-    fn tq_write_signed(raw: i64, width: u32, frac: u32, out: *mut u8, len: usize) -> Unsigned;
-    fn tq_write_unsigned(raw: u64, width: u32, frac: u32, out: *mut u8, len: usize) -> Unsigned;
-}
+use capi::*;
 
 // ---- the model: r / 2^F is r x 5^F / 10^F, in decimal digits throughout
 
@@ -122,41 +114,50 @@ fn refused(t: &mut Tally, width: u32, frac: u32, number: u32) {
     }
 }
 
-fn main() {
-    let mut t = Tally { passed: 0, failed: 0 };
-    // every raw of W = 8 with every F, and of W = 16 with several
+// every raw of W = 8 with every F, and of W = 16 with several
+fn narrow(t: &mut Tally) {
     for signed in [true, false] {
         for frac in 0..=8 {
-            whole_format(&mut t, signed, 8, frac);
+            whole_format(t, signed, 8, frac);
         }
         for frac in [0, 1, 7, 8, 15, 16] {
-            whole_format(&mut t, signed, 16, frac);
+            whole_format(t, signed, 16, frac);
         }
     }
-    // the ends of every format, 0, 1 and -1, and the powers of ten and of two, in every buffer
+}
+
+// the ends of every format, 0, 1 and -1, in every buffer
+fn ends(t: &mut Tally) {
     for width in [8u32, 16, 32, 64] {
         for frac in 0..=width {
             let half = 1i128 << (width - 1);
             for raw in [-half, -1, 0, 1, half - 1] {
-                every_room(&mut t, raw, true, width, frac);
+                every_room(t, raw, true, width, frac);
             }
             for raw in [0, 1, 2 * half - 1] {
-                every_room(&mut t, raw, false, width, frac);
+                every_room(t, raw, false, width, frac);
             }
         }
     }
+}
+
+// the powers of ten and of two, in every buffer
+fn powers(t: &mut Tally) {
     for frac in 0..=64 {
         for k in 0..20 {
             for raw in [10i128.pow(k) - 1, 10i128.pow(k)] {
-                every_room(&mut t, raw, false, 64, frac);
+                every_room(t, raw, false, 64, frac);
             }
         }
         for k in 0..64 {
-            every_room(&mut t, 1 << k, false, 64, frac);
-            every_room(&mut t, (1 << k) - 1, false, 64, frac);
+            every_room(t, 1 << k, false, 64, frac);
+            every_room(t, (1 << k) - 1, false, 64, frac);
         }
     }
-    // wide raws at random, also where the format could not hold them
+}
+
+// wide raws at random, also where the format could not hold them
+fn at_random(t: &mut Tally) {
     let mut x: u64 = 0x9e37_79b9_7f4a_7c15;
     for i in 0..400_000u64 {
         x ^= x << 13;
@@ -165,18 +166,30 @@ fn main() {
         let width = [8, 16, 32, 64][(i % 4) as usize];
         let frac = (x >> 40) as u32 % (width + 1);
         let raw = x >> (i / 4 % 64);
-        check(&mut t, raw as i128, false, width, frac, 67);
-        check(&mut t, raw as i64 as i128, true, width, frac, 67);
+        check(t, raw as i128, false, width, frac, 67);
+        check(t, raw as i64 as i128, true, width, frac, 67);
     }
-    // the refusals in their order
+}
+
+// the refusals in their order
+fn refusals(t: &mut Tally) {
     for frac in [0, 8, 65] {
         for width in [0, 7, 9, 63, 65, u32::MAX] {
-            refused(&mut t, width, frac, 1);
+            refused(t, width, frac, 1);
         }
     }
     for width in [8, 16, 32, 64] {
-        refused(&mut t, width, width + 1, 2);
-        refused(&mut t, width, u32::MAX, 2);
+        refused(t, width, width + 1, 2);
+        refused(t, width, u32::MAX, 2);
     }
+}
+
+fn main() {
+    let mut t = Tally { passed: 0, failed: 0 };
+    narrow(&mut t);
+    ends(&mut t);
+    powers(&mut t);
+    at_random(&mut t);
+    refusals(&mut t);
     println!("{} passed, {} failed", t.passed, t.failed);
 }

@@ -1,19 +1,12 @@
-// The writer's speed against Rust's own formatting of an integer with as many digits, in one process. Built and run by oracle/decimal_bench.sh.
+// The writer's speed against Rust's own formatting of an integer with as many digits, in one process. Built and run by oracle/program.
 
+#[path = "capi.rs"]
+mod capi;
+
+use capi::*;
 use std::hint::black_box;
 use std::io::Write;
 use std::time::Instant;
-
-#[repr(C)]
-struct Unsigned {
-    number: u32,
-    flag: u32,
-    value: u64,
-}
-
-extern "C" {
-    fn tq_write_signed(raw: i64, width: u32, frac: u32, out: *mut u8, len: usize) -> Unsigned;
-}
 
 const RAWS: usize = 4096;
 // Both sides take turns; the fastest round of each counts, since everything else on the machine only slows one down.
@@ -48,28 +41,39 @@ fn digits(text: &[u8]) -> u128 {
     text.iter().filter(|b| b.is_ascii_digit()).fold(0, |n, b| n * 10 + u128::from(b - b'0'))
 }
 
+// Raws of a format, and the integers whose digits are those of their texts.
+struct Sample {
+    raws: Vec<i64>,
+    integers: Vec<u128>,
+    // bytes of a text, on the mean
+    length: f64,
+}
+
+fn sample(x: &mut u64, width: u32, frac: u32) -> Sample {
+    let (mut raws, mut integers, mut length) = (Vec::new(), Vec::new(), 0);
+    while raws.len() < RAWS {
+        *x ^= *x << 13;
+        *x ^= *x >> 7;
+        *x ^= *x << 17;
+        // odd, so that no digit of the fraction is missing; positive, since the integers have no sign
+        let raw = (*x >> (65 - width) | 1) as i64;
+        let mut out = [0u8; 67];
+        let answer = port(raw, width, frac, &mut out);
+        assert_eq!((answer.number, answer.flag), (0, 0), "raw {raw}, W = {width}, F = {frac}");
+        let n = answer.value as usize;
+        // a leading 1 in place of a leading zero keeps the integer's length
+        let lead = if out[0] == b'0' { 10u128.pow(frac) } else { 0 };
+        integers.push(digits(&out[..n]) + lead);
+        raws.push(raw);
+        length += n;
+    }
+    Sample { raws, integers, length: length as f64 / RAWS as f64 }
+}
+
 fn main() {
     let mut x: u64 = 0x9e37_79b9_7f4a_7c15;
     for (width, frac) in [(8, 7), (16, 15), (32, 0), (32, 16), (64, 0), (64, 20)] {
-        let mut raws = Vec::new();
-        let mut integers = Vec::new();
-        let mut length = 0;
-        while raws.len() < RAWS {
-            x ^= x << 13;
-            x ^= x >> 7;
-            x ^= x << 17;
-            // odd, so that no digit of the fraction is missing; positive, since the integers have no sign
-            let raw = (x >> (65 - width) | 1) as i64;
-            let mut out = [0u8; 67];
-            let answer = port(raw, width, frac, &mut out);
-            assert_eq!((answer.number, answer.flag), (0, 0), "raw {raw}, W = {width}, F = {frac}");
-            let n = answer.value as usize;
-            // a leading 1 in place of a leading zero keeps the integer's length
-            let lead = if out[0] == b'0' { 10u128.pow(frac) } else { 0 };
-            integers.push(digits(&out[..n]) + lead);
-            raws.push(raw);
-            length += n;
-        }
+        let Sample { raws, integers, length } = sample(&mut x, width, frac);
         let (mut of_rust, mut of_port) = (f64::MAX, f64::MAX);
         for _ in 0..ROUNDS {
             of_rust = of_rust.min(round(&integers, formatted));
@@ -77,7 +81,6 @@ fn main() {
                 black_box(port(raw, width, frac, out));
             }));
         }
-        let mean = length as f64 / RAWS as f64;
-        println!("W = {width}, F = {frac}, {mean:.1} bytes: ratio {:.2}", of_port / of_rust);
+        println!("W = {width}, F = {frac}, {length:.1} bytes: ratio {:.2}", of_port / of_rust);
     }
 }

@@ -1,6 +1,10 @@
 // Compares the archive's logarithm with S's own src/log10.rs, compiled here unchanged, and with an exact model, and times both.
-// Built and run by oracle/log10.sh.
+// Built and run by oracle/program.
 
+#[path = "capi.rs"]
+mod capi;
+
+use capi::*;
 use std::hint::black_box;
 use std::num::NonZero;
 use std::time::Instant;
@@ -8,20 +12,7 @@ use std::time::Instant;
 // S's file, as it is. Functions of it that no width here needs (u128) stay unused.
 #[allow(dead_code)]
 mod s_log10 {
-    include!(concat!(env!("S_SRC"), "/log10.rs"));
-}
-
-#[repr(C)]
-#[derive(Clone, Copy, Debug, PartialEq)]
-struct Signed {
-    number: u32,
-    flag: u32,
-    value: i64,
-}
-
-extern "C" {
-    fn tq_log10_signed(raw: i64, width: u32, frac: u32) -> Signed;
-    fn tq_log10_unsigned(raw: u64, width: u32, frac: u32) -> Signed;
+    include!(concat!(env!("S_FOLDER"), "/log10.rs"));
 }
 
 fn ours_signed(raw: i64, width: u32, frac: u32) -> Signed {
@@ -161,8 +152,8 @@ impl Random {
     }
 }
 
-fn compare(t: &mut Tally) {
-    // every raw of W = 8 and 16, at every F
+// every raw of W = 8 and 16, at every F
+fn narrow(t: &mut Tally) {
     for width in [8u32, 16] {
         for frac in 0..=width {
             for raw in 0..1u64 << width {
@@ -173,22 +164,13 @@ fn compare(t: &mut Tally) {
             }
         }
     }
-    // the neighbours of every power of ten, at every F, also where the format could not hold them
+}
+
+// the neighbours of every power of ten, at every F, also where the format could not hold them; and the ends of a word
+fn near_powers(t: &mut Tally) {
     for width in [8u32, 16, 32, 64] {
         for frac in 0..=width {
-            for k in -20..=19 {
-                let at = if k >= 0 {
-                    (10u128.pow(k as u32)).checked_mul(1u128 << frac)
-                } else {
-                    Some((1u128 << frac).div_ceil(10u128.pow(-k as u32)))
-                };
-                for d in -2..=2i128 {
-                    let near = at.map(|a| a as i128 + d).filter(|&n| n >= 0);
-                    if let Some(raw) = near.and_then(|n| u64::try_from(n).ok()) {
-                        t.raw(raw, width, frac);
-                    }
-                }
-            }
+            (-20..=19).for_each(|k| near_power(t, k, width, frac));
             for raw in [1, u64::MAX, u64::MAX - 1, i64::MAX as u64, 1 << 63] {
                 t.raw(raw, width, frac);
             }
@@ -197,7 +179,24 @@ fn compare(t: &mut Tally) {
             }
         }
     }
-    // random wide ones, at every F
+}
+
+fn near_power(t: &mut Tally, k: i32, width: u32, frac: u32) {
+    let at = if k >= 0 {
+        (10u128.pow(k as u32)).checked_mul(1u128 << frac)
+    } else {
+        Some((1u128 << frac).div_ceil(10u128.pow(-k as u32)))
+    };
+    for d in -2..=2i128 {
+        let near = at.map(|a| a as i128 + d).filter(|&n| n >= 0);
+        if let Some(raw) = near.and_then(|n| u64::try_from(n).ok()) {
+            t.raw(raw, width, frac);
+        }
+    }
+}
+
+// random wide ones, at every F
+fn at_random(t: &mut Tally) {
     let mut random = Random(0x7461_6d71_6f72_6574);
     for width in [32u32, 64] {
         for frac in 0..=width {
@@ -207,7 +206,10 @@ fn compare(t: &mut Tally) {
             }
         }
     }
-    // formats that are none
+}
+
+// formats that are none
+fn no_formats(t: &mut Tally) {
     for width in (0..200).chain([u32::MAX, u32::MAX - 1, 1 << 31, 264, 272, 288, 320]) {
         for frac in (0..80).chain([u32::MAX, 1 << 31, 256, 264]) {
             for raw in [0, 1, 255, u64::MAX] {
@@ -259,18 +261,41 @@ fn timing() {
     let sized16: Vec<u64> = (0..50_000).map(|_| random.sized(16).max(1)).collect();
     let sized32: Vec<u64> = (0..50_000).map(|_| random.sized(32).max(1)).collect();
     for (kind, r16, r32) in [("every raw alike", &even16, &even32), ("every size alike", &sized16, &sized32)] {
-        time(&format!("W 16 F 16, {kind}"), r16, |r| ours_unsigned(r, 16, 16).value, |r| s_call16::<16>(r as u16) as i64);
-        time(&format!("W 16 F 15, {kind}"), r16, |r| ours_unsigned(r, 16, 15).value, |r| s_call16::<15>(r as u16) as i64);
+        time(
+            &format!("W 16 F 16, {kind}"),
+            r16,
+            |r| ours_unsigned(r, 16, 16).value,
+            |r| s_call16::<16>(r as u16) as i64,
+        );
+        time(
+            &format!("W 16 F 15, {kind}"),
+            r16,
+            |r| ours_unsigned(r, 16, 15).value,
+            |r| s_call16::<15>(r as u16) as i64,
+        );
         time(&format!("W 16 F 8, {kind}"), r16, |r| ours_unsigned(r, 16, 8).value, |r| s_call16::<8>(r as u16) as i64);
-        time(&format!("W 32 F 32, {kind}"), r32, |r| ours_unsigned(r, 32, 32).value, |r| s_call32::<32>(r as u32) as i64);
-        time(&format!("W 32 F 16, {kind}"), r32, |r| ours_unsigned(r, 32, 16).value, |r| s_call32::<16>(r as u32) as i64);
+        time(
+            &format!("W 32 F 32, {kind}"),
+            r32,
+            |r| ours_unsigned(r, 32, 32).value,
+            |r| s_call32::<32>(r as u32) as i64,
+        );
+        time(
+            &format!("W 32 F 16, {kind}"),
+            r32,
+            |r| ours_unsigned(r, 32, 16).value,
+            |r| s_call32::<16>(r as u32) as i64,
+        );
         time(&format!("W 32 F 0, {kind}"), r32, |r| ours_unsigned(r, 32, 0).value, |r| s_call32::<0>(r as u32) as i64);
     }
 }
 
 fn main() {
     let mut t = Tally::default();
-    compare(&mut t);
+    narrow(&mut t);
+    near_powers(&mut t);
+    at_random(&mut t);
+    no_formats(&mut t);
     timing();
     println!("{} passed, {} failed", t.passed, t.failed);
     if t.failed > 0 {

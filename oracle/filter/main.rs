@@ -1,30 +1,33 @@
 // Tests of the filter and the headroom check that do not lean on the proof, and their speed, through the C interface.
 //
-//     rustc --edition 2021 -O oracle/filter/main.rs -L target/staticlib -l static=capi -o target/filter && target/filter
+//     oracle/program filter
 //
 // It compares every answer with a plain filter written here in i128, tries every set of up to two taps from the interesting values with every
 // pair of extreme samples, and random longer sets with random samples, none of which may pass the witness. The last lines are ratios per sample
 // against the same filter in Rust, both in this process.
 
+#[path = "../capi.rs"]
+mod capi;
+
+use capi::*;
 use std::time::Instant;
 
 const TAPS: usize = 64;
 
-#[repr(C)]
-#[derive(Clone, Copy, Debug, PartialEq)]
-struct Unsigned {
-    number: u32,
-    flag: u32,
-    value: u64,
-}
-
-extern "C" {
-    fn tq_filter(taps: *const i16, n: usize, state: *mut [i16; TAPS], samples: *const i16, len: usize, outputs: *mut i16, out_len: usize, clips: *mut u8, clips_len: usize) -> Unsigned;
-    fn tq_headroom(taps: *const i16, n: usize, witness: *mut i16, m: usize) -> Unsigned;
-}
-
 fn filter(taps: &[i16], state: &mut [i16; TAPS], samples: &[i16], outputs: &mut [i16], clips: &mut [u8]) -> Unsigned {
-    unsafe { tq_filter(taps.as_ptr(), taps.len(), state, samples.as_ptr(), samples.len(), outputs.as_mut_ptr(), outputs.len(), clips.as_mut_ptr(), clips.len()) }
+    unsafe {
+        tq_filter(
+            taps.as_ptr(),
+            taps.len(),
+            state,
+            samples.as_ptr(),
+            samples.len(),
+            outputs.as_mut_ptr(),
+            outputs.len(),
+            clips.as_mut_ptr(),
+            clips.len(),
+        )
+    }
 }
 
 fn headroom(taps: &[i16], witness: &mut [i16]) -> Unsigned {
@@ -138,7 +141,13 @@ fn judge(score: &mut Score, taps: &[i16], tries: &[Vec<i16>]) -> u64 {
         let (mut s, mut o, mut c) = ([0i16; TAPS], vec![0i16; n], vec![0u8; n]);
         filter(taps, &mut s, &fed, &mut o, &mut c);
         score.see(o[n - 1] == end && c[n - 1] == 1, "the filter clips on the witness", taps);
-        score.see(taps.iter().zip(&w).all(|(&t, &x)| if t == 0 { x == 0 } else { x == if (t > 0) == (r.value == 1) { 32767 } else { -32768 } }), "the witness' ends", taps);
+        score.see(
+            taps.iter().zip(&w).all(|(&t, &x)| {
+                if t == 0 { x == 0 } else { x == if (t > 0) == (r.value == 1) { 32767 } else { -32768 } }
+            }),
+            "the witness' ends",
+            taps,
+        );
     }
     for samples in tries {
         let p = exact(taps, samples);
@@ -162,7 +171,10 @@ fn lists(set: &[i16], n: usize) -> Vec<Vec<i16>> {
 }
 
 fn brute(score: &mut Score) {
-    let taps = [-32768i16, -32767, -32766, -16385, -16384, -16383, -3, -2, -1, 0, 1, 2, 3, 16383, 16384, 16385, 32765, 32766, 32767];
+    let taps = [
+        -32768i16, -32767, -32766, -16385, -16384, -16383, -3, -2, -1, 0, 1, 2, 3, 16383, 16384, 16385, 32765, 32766,
+        32767,
+    ];
     let ends = [-32768i16, -32767, -1, 0, 1, 32766, 32767];
     let mut verdicts = [0u64; 3];
     for n in 1..=2 {
@@ -176,7 +188,11 @@ fn brute(score: &mut Score) {
     for round in 0..4000 {
         let n = 1 + random.below(TAPS as u64) as usize;
         let t = if round % 2 == 0 { random.raws(n) } else { random.edge(n) };
-        let tries: Vec<Vec<i16>> = if n <= 10 && round % 8 == 0 { lists(&[-32768, 32767], n) } else { (0..40).map(|_| random.raws(n)).collect() };
+        let tries: Vec<Vec<i16>> = if n <= 10 && round % 8 == 0 {
+            lists(&[-32768, 32767], n)
+        } else {
+            (0..40).map(|_| random.raws(n)).collect()
+        };
         verdicts[judge(score, &t, &tries) as usize] += 1;
     }
     println!("verdicts 0, 1, 2: {verdicts:?}");
@@ -192,12 +208,21 @@ fn blocks(score: &mut Score) {
         compare(score, &t, &state, &x);
     }
     // what is refused leaves everything as it was
-    for (n, len, outs, marks, number) in [(0, 3, 3, 3, 40), (65, 3, 3, 3, 40), (1, 3, 2, 3, 5), (1, 3, 3, 4, 5), (0, 2, 3, 3, 5), (65, 0, 0, 0, 40)] {
+    for (n, len, outs, marks, number) in
+        [(0, 3, 3, 3, 40), (65, 3, 3, 3, 40), (1, 3, 2, 3, 5), (1, 3, 3, 4, 5), (0, 2, 3, 3, 5), (65, 0, 0, 0, 40)]
+    {
         let (t, x) = (random.raws(n), random.raws(len));
         let before: [i16; TAPS] = random.raws(TAPS).try_into().unwrap();
         let (mut s, mut o, mut c) = (before, vec![9i16; outs], vec![9u8; marks]);
         let r = filter(&t, &mut s, &x, &mut o, &mut c);
-        score.see(r == Unsigned { number, flag: 0, value: 0 } && s == before && o.iter().all(|&y| y == 9) && c.iter().all(|&b| b == 9), "refusal of a block", &t);
+        score.see(
+            r == Unsigned { number, flag: 0, value: 0 }
+                && s == before
+                && o.iter().all(|&y| y == 9)
+                && c.iter().all(|&b| b == 9),
+            "refusal of a block",
+            &t,
+        );
     }
     for (n, m, number) in [(0, 0, 40), (65, 65, 40), (2, 1, 5), (0, 1, 5)] {
         let (t, mut w) = (random.raws(n), vec![9i16; m]);
@@ -242,7 +267,12 @@ fn speed() {
             theirs = theirs.min(start.elapsed().as_secs_f64());
         }
         let per = |s: f64| s / len as f64 * 1e9;
-        println!("speed: {n} taps: {:.1} ns per sample, Rust {:.1} ns, ratio {:.2}", per(ours), per(theirs), ours / theirs);
+        println!(
+            "speed: {n} taps: {:.1} ns per sample, Rust {:.1} ns, ratio {:.2}",
+            per(ours),
+            per(theirs),
+            ours / theirs
+        );
     }
 }
 

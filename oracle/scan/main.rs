@@ -45,7 +45,11 @@ unsafe extern "C" {
 
 /// The values of the digits in a run of the text, `_` skipped.
 fn values(text: &[u8], from: usize, to: usize) -> Vec<u8> {
-    text[from..to].iter().filter(|byte| **byte != b'_').map(|byte| char::from(*byte).to_digit(16).unwrap() as u8).collect()
+    text[from..to]
+        .iter()
+        .filter(|byte| **byte != b'_')
+        .map(|byte| char::from(*byte).to_digit(16).unwrap() as u8)
+        .collect()
 }
 
 /// What the scanner's places say, in the automaton's terms.
@@ -98,7 +102,12 @@ impl Tally {
             // SAFETY: as above
             let probe = unsafe { probe_literal(text.as_ptr(), text.len(), signed.into()) };
             let right = scan::scan(text, Reader::Literal, signed);
-            self.same(text, if signed { "literal, signed," } else { "literal, unsigned," }, written(text, &probe), right);
+            self.same(
+                text,
+                if signed { "literal, signed," } else { "literal, unsigned," },
+                written(text, &probe),
+                right,
+            );
         }
     }
 }

@@ -1,6 +1,9 @@
 //! Compares S, an exact model and the port on texts. `oracle/run` builds and starts this.
 
 mod bench;
+#[cfg(port)]
+#[path = "../capi.rs"]
+mod capi;
 mod classes;
 mod compare;
 mod division;

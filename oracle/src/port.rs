@@ -7,46 +7,17 @@ pub use linked::*;
 
 #[cfg(port)]
 mod linked {
+    use crate::capi::*;
     use crate::format::{Answer, Format, Outcome, Reader};
 
-    #[repr(C)]
-    struct SignedAnswer {
-        number: u32,
-        flag: u32,
-        value: i64,
-    }
-
-    #[repr(C)]
-    struct UnsignedAnswer {
-        number: u32,
-        flag: u32,
-        value: u64,
-    }
-
-    unsafe extern "C" {
-        fn tq_read_signed(text: *const u8, len: usize, width: u32, frac: u32, radix: u32, manner: u32) -> SignedAnswer;
-        fn tq_read_unsigned(
-            text: *const u8,
-            len: usize,
-            width: u32,
-            frac: u32,
-            radix: u32,
-            manner: u32,
-        ) -> UnsignedAnswer;
-        fn tq_literal_signed(text: *const u8, len: usize, width: u32, frac: u32) -> SignedAnswer;
-        fn tq_literal_unsigned(text: *const u8, len: usize, width: u32, frac: u32) -> UnsignedAnswer;
-        fn tq_log10_signed(raw: i64, width: u32, frac: u32) -> SignedAnswer;
-        fn tq_log10_unsigned(raw: u64, width: u32, frac: u32) -> SignedAnswer;
-    }
-
-    impl From<SignedAnswer> for Outcome {
-        fn from(SignedAnswer { number, flag, value }: SignedAnswer) -> Outcome {
+    impl From<Signed> for Outcome {
+        fn from(Signed { number, flag, value }: Signed) -> Outcome {
             Outcome::Answered(Answer { number, flag: flag != 0, value: i128::from(value) })
         }
     }
 
-    impl From<UnsignedAnswer> for Outcome {
-        fn from(UnsignedAnswer { number, flag, value }: UnsignedAnswer) -> Outcome {
+    impl From<Unsigned> for Outcome {
+        fn from(Unsigned { number, flag, value }: Unsigned) -> Outcome {
             Outcome::Answered(Answer { number, flag: flag != 0, value: i128::from(value) })
         }
     }
