@@ -3,7 +3,8 @@
 
 Writes FOLDER/NAME.a for each fault. A constant may stand in the code several times, all of them are changed; a fault whose constant is not
 found is said so, and then the compiler has made other code of it. With `run` the comparison with the exact model is made with each copy, and
-the runs that noticed are printed; a fault of NOTICED that no run notices is a failure, and so is one of EQUAL that one does.
+the runs that noticed are printed; a fault of NOTICED that no run notices is a failure, and so is one of EQUAL that one does, and one of BESIDE that
+its program (oracle/program) does not notice.
 """
 import pathlib
 import re
@@ -49,6 +50,17 @@ EQUAL = {
     "reciprocal_2_29": word(RECIPROCAL, -(2**29)),
 }
 
+# faults for the programs beside: the program that must notice, and the change
+BESIDE = {
+    # mov $31,%eax: the refusal of a zero divisor
+    "zero_divisor": ("arith", [(b"\xb8\x1f\x00\x00\x00", b"\xb8\x1e\x00\x00\x00")]),
+    # the reciprocal of 10 times 2^67
+    "tenth": ("decimal", word(0xCCCCCCCCCCCCCCCD, 1)),
+    # cmp $0x7fff,%rax: the highest sample
+    "clip": ("filter", [(b"\x48\x3d\xff\x7f\x00\x00", b"\x48\x3d\xfe\x7f\x00\x00")]),
+}
+ALL = NOTICED | EQUAL | {name: changes for name, (_, changes) in BESIDE.items()}
+
 
 def write(archive, target, name, changes):
     """The copy with the fault, or None where the constant does not stand in the archive."""
@@ -65,30 +77,38 @@ def write(archive, target, name, changes):
     return copy
 
 
-def noticed(copy):
+def said(*command):
+    """What a command prints, where it closes with its counts."""
+    told = subprocess.run(command, capture_output=True, text=True, check=False).stdout
+    return told if re.search(r"^\d+ passed, \d+ failed$", told, re.M) else "broke off: 1 texts, 1 answers compared, 1 failed\n0 passed, 1 failed"
+
+
+def noticed(name, copy):
     """The runs that fail with this copy, each with its failed answers."""
-    run = [str(pathlib.Path(__file__).parent / "run"), "-", "--port", str(copy), "--longest", "4", "all"]
-    told = subprocess.run(run, capture_output=True, text=True, check=False).stdout
-    if not re.search(r"^\d+ passed, \d+ failed$", told, re.M):
-        return ["it broke off"]
-    counts = re.findall(r"^(\w+): \d+ texts, \d+ answers compared, (\d+) failed", told, re.M)
-    return [f"{name} {int(failed):,}" for name, failed in counts if failed != "0"]
+    here = pathlib.Path(__file__).parent
+    if name in BESIDE:
+        program = BESIDE[name][0]
+        failed = re.search(r"(\d+) failed$", said(here / "program", program, "--port", copy).strip())[1]
+        return [f"oracle/program {program} {int(failed):,}"] if failed != "0" else []
+    told = said(here / "run", "-", "--port", copy, "--longest", "4", "all")
+    counts = re.findall(r"^([\w ]+): \d+ texts, \d+ answers compared, (\d+) failed", told, re.M)
+    return [f"{run} {int(failed):,}" for run, failed in counts if failed != "0"]
 
 
 def main(archive, folder, *run):
     target = pathlib.Path(folder)
     target.mkdir(parents=True, exist_ok=True)
     wrong = 0
-    for name, changes in (NOTICED | EQUAL).items():
+    for name, changes in ALL.items():
         copy = write(archive, target, name, changes)
         if copy is None:
             wrong += 1
         elif run:
-            found = noticed(copy)
+            found = noticed(name, copy)
             print(f"  {', '.join(found) or 'no run'}", flush=True)
-            wrong += bool(found) != (name in NOTICED)
+            wrong += bool(found) == (name in EQUAL)
     if run:
-        print(f"{len(NOTICED | EQUAL) - wrong} passed, {wrong} failed")
+        print(f"{len(ALL) - wrong} passed, {wrong} failed")
     return wrong > 0
 
 
