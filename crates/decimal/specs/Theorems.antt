@@ -26,7 +26,8 @@ use Rattle.format.specs.Theorems.{InRange, limit, limit-span, in-fits, settle-f
 use Rattle.format.specs.Fault.{fault-free, width-bounds}
 use Rattle.format.specs.Place.{fits-place}
 use Rattle.digits.specs.Meaning.{digitsOf}
-use Rattle.grammar.specs.Meaning.{digitOf, isDigit, isRadix, Written, Part, whole, fraction, Seen, nothing, sign, digit, Scan, at, refuse, Error, blank, onSign, onPoint, step, scan, ended, finish, plainScan, natOf, num, den, rawOf, readOf}
+use Rattle.grammar.specs.Meaning.{digitOf, isDigit, Written, Part, whole, fraction, Seen, nothing, sign, digit, Scan, at, refuse, Error, blank, ifFirst, step, scan, ended, finish, plainScan, natOf, num, den, rawOf}
+use Rattle.grammar.specs.Readers.{isRadix, readOf}
 use Rattle.grammar.specs.Class.{digit-ten}
 use Rattle.grammar.specs.Accepted.{scan-append}
 use Rattle.grammar.specs.Run.{valuesOf, values-digit, runMore, runLen, partOf, withDigits, seenAfter, scan-run}
@@ -133,12 +134,12 @@ partFor [] = whole
 partFor (d ∷ ds) = fraction
 
 after-sign : (neg : Bool) (t : List ℕ) → (q : Seen) × (scan Error 10 (minus neg ++ t) (at whole nothing (blank false)) ≡ scan Error 10 t (at whole q (blank neg)))
-unfolding minus scan step onSign
+unfolding minus scan step ifFirst
 after-sign true t = (sign, refl)
 after-sign false t = (nothing, refl)
 
 after-point : (neg : Bool) (ws : List ℕ) {fs : List ℕ} → Digits fs → scan Error 10 (pointed fs) (at whole digit (withDigits false (blank neg) ws)) ≡ at (partFor fs) digit (written neg ws fs)
-unfolding pointed scan step onPoint
+unfolding pointed scan step
 after-point neg ws none = ap (λ (ds : List ℕ). at whole digit (record { neg = neg; digits = ds; after = 0; base = 1; down = false; exp = 0 })) (sym (append-nil ws))
 after-point neg ws (more {d} {ds} h r) =
     scan-digits true (more h r) nothing (withDigits false (blank neg) ws)

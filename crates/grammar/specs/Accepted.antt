@@ -9,10 +9,9 @@ use lib.Dec.{T, leb, eqb, leb→le}
 use lib.ListN.{length, length-append}
 use borrow.Author.Tests.{leb-true, ltb-true, eqb-true}
 use Rattle.format.specs.Meaning.{Sign}
-use Rattle.grammar.specs.Meaning.{Sep, Skip, Error, digitOf, isDigit, isSign, isBitMark, isMark, baseOf, Written, Part, whole, fraction, exponent, Seen, nothing}
-use Rattle.grammar.specs.Meaning.{sign, digit, Scan, at, refuse, blank, withDigit, onSign, onPoint, invalid, onUnderscore, onMark, expLimit}
-use Rattle.grammar.specs.Meaning.{onExpDigit, onOther, step, scan, ended, finish, plainScan, prefixMark, prefixRadix, afterPrefix, literalMinus}
-use Rattle.grammar.specs.Meaning.{literalBody, literalRadix, literalScan, isRadix}
+use Rattle.grammar.specs.Meaning.{Sep, Skip, Error, digitOf, isDigit, isSign, isMark, baseOf, Written, Part, whole, fraction, exponent, Seen, nothing, sign, digit, Scan, at, refuse, blank, withDigit, expLimit, onExpDigit, step, scan, ended, finish, plainScan, prefixMark, prefixRadix, afterPrefix, literalMinus, literalBody, literalRadix, literalScan}
+use Rattle.grammar.specs.Step.{isBitMark, onSign, onPoint, invalid, onUnderscore, onMark, onOther, step-by}
+use Rattle.grammar.specs.Readers.{isRadix}
 
 -- the exponent: 0 until a digit of it was read, then within its range
 unfoldable pub ExpIs : Part → Seen → Bool → ℕ → Type 0
@@ -128,12 +127,11 @@ module _ (radix : ℕ) where
   on-other b exponent q x s = by-test (Ends radix) (isDigit 10 b) (λ t. on-exp-digit (digitOf b) q x s) (λ t. on-invalid exponent)
 
   on-byte : (k : Sep) (b : ℕ) (p : Part) (q : Seen) (x : Written) → Sound radix p q x → Ends radix (step k radix b p q x)
-  unfolding step
-  on-byte k b p q x s =
+  on-byte k b p q x s = rw (step-by k radix b p q x) (
       by-test (Ends radix) (isSign b) (λ t. on-sign (eqb b 45) p q x s) (λ t.
       by-test (Ends radix) (eqb b 46) (λ t. on-point p q x s) (λ t.
       by-test (Ends radix) (eqb b 95) (λ t. on-underscore k p q x s) (λ t.
-      by-test (Ends radix) (isMark radix b) (λ t. on-mark b p q x t s) (λ t. on-other b p q x s))))
+      by-test (Ends radix) (isMark radix b) (λ t. on-mark b p q x t s) (λ t. on-other b p q x s)))))
 
   on-bytes : (k : Sep) (t : List ℕ) {r : Scan} → Ends radix r → Ends radix (scan k radix t r)
   unfolding scan

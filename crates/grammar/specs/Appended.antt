@@ -9,8 +9,7 @@ use lib.ListN.{length, length-append, replicate}
 use borrow.Author.Tests.{eqb-false, ne-eqb, lt-ltb}
 use Rattle.format.specs.declared.Manner.{Manner}
 use Rattle.format.specs.Meaning.{Sign, signed, unsigned, settle, withSign}
-use Rattle.grammar.specs.Meaning.{Sep, digitOf, isMark, Written, fraction, Seen, digit, Scan, at, withDigit, onOther, step, scan, ended, finish}
-use Rattle.grammar.specs.Meaning.{prefixMark, prefixRadix, dropUnderscores, afterPrefix, literalMinus, literalBody, rawOf, readScan}
+use Rattle.grammar.specs.Meaning.{Sep, digitOf, isMark, Written, fraction, Seen, digit, Scan, at, withDigit, step, scan, ended, finish, prefixMark, prefixRadix, dropUnderscores, afterPrefix, literalMinus, literalBody, rawOf, readScan}
 use Rattle.grammar.specs.Accepted.{Ends, ends-sound, sound-base, finish-at, scan-append}
 use Rattle.grammar.specs.Rounding.{zero-more}
 
@@ -19,7 +18,7 @@ zeros n = replicate n 48
 
 module _ (j : Sep) (radix : ℕ) (r : 0 < radix) where
   zero-step : (q : Seen) (x : Written) → step j radix 48 fraction q x ≡ at fraction digit (withDigit x 0 1)
-  unfolding step onOther isMark digitOf
+  unfolding step isMark digitOf
   zero-step q x = rw (lt-ltb 0 radix r)
 
   zeros-read : (k : Manner) (s : Sign) (w f n : ℕ) (q : Seen) (x : Written) → 0 < x .base → (length (x .digits) ≡ 0 → ⊥)

@@ -14,9 +14,8 @@ use Rattle.format.specs.declared.Manner.{Manner}
 use Rattle.format.specs.declared.Manner.the-variants.{Strict, Saturating, Wrapping, Overflowing}
 use Rattle.format.specs.Meaning.{Sign, signed, unsigned, Outcome, done, refused, isWidth, faultOf, lowest, highest, fits, hold, wrap, settle, unless}
 use Rattle.format.specs.Meaning.{withSign}
-use Rattle.grammar.specs.Meaning.{digitOf, isDigit, isSign, isMark, baseOf, onSign, onPoint, onUnderscore, onMark, onExpDigit, onOther, step, scan, ended, finish}
-use Rattle.grammar.specs.Meaning.{plainScan, prefixMark, prefixRadix, dropUnderscores, literalMinus, literalScan, natFrom, num, den, rawOf}
-use Rattle.grammar.specs.Meaning.{readScan, isRadix, readOf, literalOf, Written, exponent, digit, at, textLimit}
+use Rattle.grammar.specs.Meaning.{digitOf, isDigit, isSign, isMark, baseOf, onExpDigit, step, scan, ended, finish, plainScan, prefixMark, prefixRadix, dropUnderscores, literalMinus, literalScan, natFrom, num, den, rawOf, readScan, Written, exponent, digit, at, underscore, ifFirst}
+use Rattle.grammar.specs.Readers.{isRadix, readOf, literalOf, textLimit}
 use Rattle.grammar.specs.Rounding.{huge-over, huge-wraps, huge-under, nothing-written}
 use Rattle.grammar.specs.Theorems.{Taken, read-as, den-positive}
 
@@ -98,7 +97,7 @@ data Case : Type 0 where
   _gives_ : Outcome → Outcome → Case
 
 got : Case → Outcome
-unfolding nearestEven nearestBy bytes isWidth faultOf lowest highest fits hold wrap settle unless withSign digitOf isMark onSign onPoint onUnderscore onMark onExpDigit onOther step scan ended finish plainScan prefixMark prefixRadix dropUnderscores literalMinus literalScan natFrom num den rawOf readScan isRadix readOf literalOf
+unfolding nearestEven nearestBy bytes isWidth faultOf lowest highest fits hold wrap settle unless withSign digitOf isMark underscore ifFirst onExpDigit step scan ended finish plainScan prefixMark prefixRadix dropUnderscores literalMinus literalScan natFrom num den rawOf readScan isRadix readOf literalOf
 got (a gives b) = a
 
 abbrev want : Case → Outcome

@@ -7,7 +7,9 @@ pub mod Literal
 pub mod Literals
 pub mod Meaning
 pub mod Parts
+pub mod Readers
 pub mod Reading
 pub mod Rounding
 pub mod Run
+pub mod Step
 pub mod Theorems

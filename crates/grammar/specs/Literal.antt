@@ -10,7 +10,8 @@ use lib.ListN.{length, drop, getD, drop-of-length-le, length-drop}
 use lib.Seq.{drop-cons, drop-drop}
 use borrow.Author.Tests.{eq-eqb, ne-eqb}
 use Rattle.format.specs.Meaning.{Sign, signed, unsigned}
-use Rattle.grammar.specs.Meaning.{isRadix, prefixMark, prefixRadix, dropUnderscores, afterPrefix, literalMinus, literalBody, literalRadix, literalScan, at, whole, sign, blank, Skip}
+use Rattle.grammar.specs.Meaning.{prefixMark, prefixRadix, dropUnderscores, afterPrefix, literalMinus, literalBody, literalRadix, literalScan, at, whole, sign, blank, Skip}
+use Rattle.grammar.specs.Readers.{isRadix}
 use Rattle.grammar.specs.Run.{sepOf}
 use Rattle.grammar.specs.Reading.{Reading, reading, readingOf}
 use Rattle.grammar.specs.Found.{Finds, finds-by}

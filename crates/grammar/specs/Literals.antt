@@ -9,15 +9,13 @@ use lib.Dec.{eqb}
 use lib.ListN.{length, length-drop, drop, getD}
 use borrow.Author.Tests.{eqb-true, eqb-false, ne-eqb}
 use Rattle.format.specs.Meaning.{Sign, signed, unsigned}
-use Rattle.grammar.specs.Meaning.{Sep, Skip, Error, isSign, Written, Part, whole, Seen, nothing, sign, digit, Scan, at, refuse, blank, onSign, onUnderscore, step}
-use Rattle.grammar.specs.Meaning.{scan, finish, plainScan, prefixRadix, dropUnderscores, afterPrefix, literalMinus, literalBody, literalRadix}
-use Rattle.grammar.specs.Meaning.{literalScan}
+use Rattle.grammar.specs.Meaning.{Sep, Skip, Error, isSign, Written, Part, whole, Seen, nothing, sign, digit, Scan, at, refuse, blank, step, scan, finish, plainScan, prefixRadix, dropUnderscores, afterPrefix, literalMinus, literalBody, literalRadix, literalScan, ifFirst, underscore}
+use Rattle.grammar.specs.Step.{onUnderscore, step-by}
 use Rattle.grammar.specs.Accepted.{finish-at, scan-refuse}
 
 -- ---- `_`: where there is none the readers scan alike
 step-sep : (radix b : ℕ) (p : Part) (q : Seen) (x : Written) → (95 ≡ b → ⊥) → step Skip radix b p q x ≡ step Error radix b p q x
-unfolding step
-step-sep radix b p q x h = rw (ne-eqb b 95 (λ e. h (sym e)))
+step-sep radix b p q x h = rw (step-by Skip radix b p q x, step-by Error radix b p q x, ne-eqb b 95 (λ e. h (sym e)))
 
 scan-sep : (radix : ℕ) (t : List ℕ) (r : Scan) → (List·Memᴰ 95 t → ⊥) → scan Skip radix t r ≡ scan Error radix t r
 unfolding scan
@@ -41,8 +39,7 @@ bare-length (b ∷ t) = go (eqb b 95) (bare-length t)
     go false h = omega arith
 
 step-under : (radix b : ℕ) (p : Part) (q : Seen) (x : Written) → b ≡ 95 → step Skip radix b p q x ≡ onUnderscore Skip p q x
-unfolding step
-step-under radix b p q x e = rw e
+step-under radix b p q x e = rw (step-by Skip radix b p q x, e)
 
 -- a scan that skips them and is not refused is a scan without them
 module _ (radix : ℕ) {p′ : Part} {q′ : Seen} {y : Written} where
@@ -73,8 +70,8 @@ body-scan k radix t neg = finish (scan k radix t (at whole sign (blank neg)))
 
 -- with no sign in front it does not matter whether one was read
 step-unsigned : (radix b : ℕ) (x : Written) → isSign b ≡ false → step Error radix b whole sign x ≡ step Error radix b whole nothing x
-unfolding step onUnderscore
-step-unsigned radix b x h = rw h
+unfolding step underscore
+step-unsigned radix b x h = rw h refl
 
 scan-unsigned : (radix : ℕ) (t : List ℕ) (neg : Bool) → isSign (getD t 0 0) ≡ false
     → finish (scan Error radix t (at whole sign (blank neg))) ≡ finish (scan Error radix t (at whole nothing (blank neg)))
@@ -84,7 +81,7 @@ scan-unsigned radix (b ∷ t) neg h = ap (λ (y : Scan). finish (scan Error radi
 
 -- a sign in front of a body is misplaced
 step-misplaced : (k : Sep) (radix b : ℕ) (x : Written) → isSign b ≡ true → step k radix b whole sign x ≡ refuse 12
-unfolding step onSign
+unfolding step ifFirst
 step-misplaced k radix b x h = rw h
 
 misplaced : (k : Sep) (radix : ℕ) (t : List ℕ) (neg : Bool) → isSign (getD t 0 0) ≡ true → body-scan k radix t neg ≡ refuse 12
@@ -102,7 +99,7 @@ body-opens k radix t neg {p} {q} {x} e = go (isSign (getD t 0 0)) refl
 
 -- a body behind its sign, as a plain text
 signed-scan : (radix : ℕ) (t : List ℕ) → body-scan Error radix t true ≡ plainScan radix (45 ∷ t)
-unfolding plainScan scan step onSign
+unfolding plainScan scan step ifFirst
 signed-scan radix t = refl
 
 bare-scan-unsigned : (radix : ℕ) (t : List ℕ) → isSign (getD t 0 0) ≡ false → body-scan Error radix t false ≡ plainScan radix t
@@ -189,7 +186,7 @@ body-free signed (b ∷ t) h = go (eqb b 45)
 body-free unsigned (b ∷ t) h = h
 
 minus-scan : (s : Sign) (t : List ℕ) → literalMinus s t ≡ true → body-scan Error 10 (literalBody s t) (literalMinus s t) ≡ plainScan 10 t
-unfolding literalMinus plainScan scan step onSign
+unfolding literalMinus plainScan scan step ifFirst
 minus-scan s [] h = absurd (false≢true h)
 minus-scan signed (b ∷ t) h = rw (eqb-true b 45 h)
 minus-scan unsigned (b ∷ t) h = absurd (false≢true h)

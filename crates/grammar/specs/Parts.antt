@@ -12,7 +12,8 @@ use lib.ListN.{length, take, drop, getD, drop-of-length-le, length-map, length-d
 use lib.Seq.{drop-cons, drop-drop, take-add}
 use borrow.Author.Tests.{ne-eqb}
 use Rattle.digits.specs.Meaning.{digitsOf}
-use Rattle.grammar.specs.Meaning.{digitOf, isDigit, isSign, isRadix, Written, Scan, at, whole, fraction, nothing, sign, blank, finish, scan, plainScan, Error}
+use Rattle.grammar.specs.Meaning.{digitOf, isDigit, isSign, Written, Scan, at, whole, fraction, nothing, sign, blank, finish, scan, plainScan, Error}
+use Rattle.grammar.specs.Readers.{isRadix}
 use Rattle.grammar.specs.Run.{valuesOf, values-digit, values-under, both, sepOf, inRun, runMore, runLen, partOf, withDigits, seenAfter, scan-run}
 use Rattle.grammar.specs.Class.{classOf, Plain, digit-plain}
 use Rattle.grammar.specs.Reading.{Reading, number, unread, reading, readingOf, opened, afterRun, Stopped, read-after, read-point, read-end, signFirst, read-unsigned, read-sign}

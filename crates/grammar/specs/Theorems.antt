@@ -26,7 +26,8 @@ use Rattle.format.specs.Fault.{fault-free, width-bounds}
 use Rattle.format.specs.Settle.{unless-none}
 use Rattle.format.specs.Place.{within, fits-place}
 use Rattle.grammar.specs.Meaning.{Skip, Error, Written, Part, whole, fraction, Seen, nothing, sign, Scan, at, blank, plainScan, afterPrefix, literalMinus}
-use Rattle.grammar.specs.Meaning.{literalBody, literalRadix, literalScan, num, den, rawOf, readScan, textLimit, isRadix, readOf, literalOf}
+use Rattle.grammar.specs.Meaning.{literalBody, literalRadix, literalScan, num, den, rawOf, readScan}
+use Rattle.grammar.specs.Readers.{textLimit, isRadix, readOf, literalOf}
 use Rattle.grammar.specs.Accepted.{Sound, Ends, ends-at, ends-not, plain-ends, literal-ends, ends-sound, radix-two, prefix-radix, sound-base}
 use Rattle.grammar.specs.Rounding.{den-pos, same-fraction, ByRadix, upward, downward, same-place}
 use Rattle.grammar.specs.Appended.{zeros, zeros-same, minus-zeros, body-zeros, prefix-zeros, after-zeros}

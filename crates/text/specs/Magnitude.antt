@@ -10,7 +10,8 @@ use lib.Dec.{eqb}
 use lib.ListN.{length, take, drop, length-append, length-take, length-drop}
 use borrow.Author.Tests.{eqb-true}
 use Rattle.laws.specs.Nearest.{nearestEven}
-use Rattle.grammar.specs.Meaning.{digitOf, Written, Part, whole, fraction, exponent, isRadix, textLimit, expLimit, natOf, num, den, rawOf}
+use Rattle.grammar.specs.Meaning.{digitOf, Written, Part, whole, fraction, exponent, expLimit, natOf, num, den, rawOf}
+use Rattle.grammar.specs.Readers.{isRadix, textLimit}
 use Rattle.grammar.specs.Accepted.{Sound, TenIs, sound-exp}
 use Rattle.grammar.specs.Found.{bodyOf, part, spanOf, writtenOf, Ready}
 use Rattle.grammar.specs.declared.scan.Parsed.{Parsed}

@@ -14,7 +14,8 @@ use Rattle.format.specs.declared.Manner.the-variants.{Strict}
 use Rattle.format.specs.Meaning.{Sign, signed, unsigned, Outcome, refused, unless, faultOf, isWidth, settle, withSign, exact}
 use Rattle.format.specs.Fault.{fault-free, width-bounds}
 use Rattle.format.specs.Settle.{unless-fault, unless-none}
-use Rattle.grammar.specs.Meaning.{Written, Part, Seen, Scan, at, refuse, isRadix, textLimit, plainScan, literalBody, literalRadix, literalScan, num, den, rawOf, readScan, readOf, literalOf}
+use Rattle.grammar.specs.Meaning.{Written, Part, Seen, Scan, at, refuse, plainScan, literalBody, literalRadix, literalScan, num, den, rawOf, readScan}
+use Rattle.grammar.specs.Readers.{isRadix, textLimit, readOf, literalOf}
 use Rattle.grammar.specs.Accepted.{Sound, Ends, ends-at, ends-not, plain-ends, literal-ends, sound-exp}
 use Rattle.grammar.specs.Literal.{FindsLiteral, prefix-legal}
 use Rattle.grammar.specs.declared.literal.Written.{Written as LiteralWritten}
