@@ -113,6 +113,13 @@ tq_unsigned tq_from_be_bytes_unsigned(const uint8_t *bytes, size_t len, uint32_t
 tq_signed tq_from_le_bytes_signed(const uint8_t *bytes, size_t len, uint32_t width, uint32_t frac);
 tq_unsigned tq_from_le_bytes_unsigned(const uint8_t *bytes, size_t len, uint32_t width, uint32_t frac);
 
+/* A raw of one format as a raw of another: the number is kept, extra fraction bits are dropped, rounding toward minus infinity, then the manner.
+ * TQ_WRONG_WIDTH for either width goes before TQ_WRONG_FRAC for either number of fraction bits. */
+tq_signed tq_convert_signed_to_signed(int64_t raw, uint32_t from_width, uint32_t from_frac, uint32_t width, uint32_t frac, uint32_t manner);
+tq_unsigned tq_convert_signed_to_unsigned(int64_t raw, uint32_t from_width, uint32_t from_frac, uint32_t width, uint32_t frac, uint32_t manner);
+tq_signed tq_convert_unsigned_to_signed(uint64_t raw, uint32_t from_width, uint32_t from_frac, uint32_t width, uint32_t frac, uint32_t manner);
+tq_unsigned tq_convert_unsigned_to_unsigned(uint64_t raw, uint32_t from_width, uint32_t from_frac, uint32_t width, uint32_t frac, uint32_t manner);
+
 /* The filter's state: the last 64 samples, newest first. All 0 at the start. */
 typedef struct {
     int16_t samples[64];

@@ -2,6 +2,7 @@
 mod answer;
 pub mod c_arith;
 pub mod c_bytes;
+pub mod c_convert;
 pub mod c_filter;
 pub mod c_log10;
 pub mod c_read;
