@@ -120,6 +120,12 @@ tq_unsigned tq_convert_signed_to_unsigned(int64_t raw, uint32_t from_width, uint
 tq_signed tq_convert_unsigned_to_signed(uint64_t raw, uint32_t from_width, uint32_t from_frac, uint32_t width, uint32_t frac, uint32_t manner);
 tq_unsigned tq_convert_unsigned_to_unsigned(uint64_t raw, uint32_t from_width, uint32_t from_frac, uint32_t width, uint32_t frac, uint32_t manner);
 
+/* The pattern of the f32 or f64 nearest to a raw's number, ties to even, as value; 0 gives the positive zero. An f32 pattern is below 2^32. */
+tq_unsigned tq_to_f32_signed(int64_t raw, uint32_t width, uint32_t frac);
+tq_unsigned tq_to_f32_unsigned(uint64_t raw, uint32_t width, uint32_t frac);
+tq_unsigned tq_to_f64_signed(int64_t raw, uint32_t width, uint32_t frac);
+tq_unsigned tq_to_f64_unsigned(uint64_t raw, uint32_t width, uint32_t frac);
+
 /* The filter's state: the last 64 samples, newest first. All 0 at the start. */
 typedef struct {
     int16_t samples[64];

@@ -7,4 +7,5 @@ pub mod c_filter;
 pub mod c_log10;
 pub mod c_read;
 pub mod c_settle;
+pub mod c_to_float;
 pub mod c_write;

@@ -1,5 +1,9 @@
 pub mod Cases
+pub mod Encoding
 pub mod Folds
 pub mod Meaning
 pub mod Parts
 pub mod Promise
+pub mod ToCases
+pub mod ToPattern
+pub mod ToTheorems

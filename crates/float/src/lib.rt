@@ -1,6 +1,7 @@
-// f32 and f64 patterns, carried as u32 and u64 integers, into a format: nearest, ties to even. One body for both, over the precision p and the
+// f32 and f64 patterns, carried as u32 and u64 integers, into a format and back: nearest, ties to even. One body for both, over the precision p and the
 // width of the exponent field (IEEE 754, 3.4).
 mod bits;
+mod encode;
 mod pattern;
 mod refusal;
 mod rounding;

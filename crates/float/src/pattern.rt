@@ -55,7 +55,7 @@ pub fn magnitude(pattern: u64, precision: u32, field: u32, frac: u32) -> Wide
 }
 
 // The least positive number is 2^-least.
-fn least(precision: u32, field: u32) -> u32
+pub fn least(precision: u32, field: u32) -> u32
     requires { ⌜ Small precision field ⌝ }
     ensures { λ r. ⌜ r ≡ leastOf (binary precision field) ⌝ }
 {
