@@ -1,5 +1,7 @@
 pub mod Cases
 pub mod Folds
+pub mod Kit
 pub mod Meaning
 pub mod Parts
 pub mod Promise
+pub mod Theorems

@@ -2,20 +2,20 @@
 -- as 2^64. `from-as` says that this is the meaning. Assumes nothing.
 use mathlib.Core.Path.{_≡_, refl, sym, ap, _∙_, subst}
 use mathlib.Core.Bool.{Bool, true, false, cond}
-use Prim.Native.Nat.{ℕ, _+_, _-_, _*_, _^_, _≤_, _<_}
+use Prim.Native.Nat.{ℕ, _+_, _-_, _*_, _^_, _≤_}
 use native.Mathlib.Omega.{arith}
 use lib.Dec.{eqb}
 use lib.IntN.{ℤ}
 use Rattle.format.specs.declared.Manner.{Manner}
 use Rattle.format.specs.declared.Manner.the-variants.{Strict, Saturating, Wrapping, Overflowing}
-use Rattle.format.specs.Meaning.{Sign, lowest, highest, isWidth, hold, settle, unless, faultOf, withSign, exact, Outcome, done, refused}
+use Rattle.format.specs.Meaning.{Sign, isWidth, settle, unless, faultOf, withSign, exact, done, refused}
 use lib.Pow.{pow-add}
 use borrow.Author.Tests.{eqb-true, eqb-false, eq-eqb, ne-eqb}
 use Rattle.laws.specs.Nearest.{nearestEven}
 use Rattle.wide.specs.declared.Wide.{Wide}
 use Rattle.format.specs.Fault.{fault-free, width-bounds}
 use Rattle.format.specs.Settle.{unless-fault, unless-none}
-use Rattle.float.specs.Meaning.{Binary, least, negative, biased, trailing, steps, Value, nan, infinite, finite, ofFields, valueOf, rawOf, infinity, ofValue, fromOf}
+use Rattle.float.specs.Meaning.{Binary, least, negative, biased, trailing, steps, nan, infinite, finite, ofFields, valueOf, rawOf, infinity, ofValue, fromOf}
 use Rattle.float.specs.Folds.{Folds, settle-folds, far-end}
 
 abbrev pub binary : ℕ → ℕ → Binary

@@ -1,8 +1,7 @@
 -- `float::pattern::magnitude` meets its contract: an infinity, a number without a leading one, and one with it. Assumes nothing.
 use Prim.Native.Nat.{_-_, _/_, _^_}
 use native.Mathlib.Omega.{arith}
-use lib.Pow.{pow-mono}
-use Rattle.float.proofs.Masks.{rest-below}
+use Rattle.float.proofs.Masks.{rest-below, significand-below}
 use Rattle.float.specs.Parts.{folds-infinite, folds-low, folds-high}
 use borrow.Author.Needs.{needs}
 use Rattle.float.proofs.pattern.magnitude.Statement.{statement}
@@ -18,16 +17,24 @@ last-requires : tie.Need-last-requires
 last-requires c κs = search needs
 
 returns : tie.Need-returns
-returns c = folds-infinite _ _ (c .before .before .before .biased .ensures) (c .before .before .trailing .ensures) (c .before .last .ensures) _ (c .if1 .taken)
+returns c =
+    let p = c .before .before .before in
+    folds-infinite _ _ (p .biased .ensures) (c .before .before .trailing .ensures) (c .before .last .ensures) _ (c .if1 .taken)
 
 least-requires : tie.Need-least-requires
 least-requires c κs = search needs
 
 scaled-requires : tie.Need-scaled-requires
-scaled-requires c κs = omega (arith, rest-below (c .before .before .before .before .before .before .args .pattern) (c .before .before .before .before .before .before .args .precision - 1) 52 (omega (arith, c .before .before .before .before .before .before .pre .0 .most)) (c .before .before .before .before .trailing .ensures))
+scaled-requires c κs =
+    let p = c .before .before .before .before in
+    let s = p .before .before in
+    omega (arith, rest-below (s .args .pattern) (s .args .precision - 1) 52 (omega (arith, s .pre .0 .most)) (p .trailing .ensures))
 
 returns-2 : tie.Need-returns-2
-returns-2 c = folds-low _ _ (c .before .before .before .before .before .before .biased .ensures) (c .before .before .before .before .before .trailing .ensures) (c .before .before .before .before .last .ensures) _ (c .before .before .before .if1 .left) (c .before .if2 .taken) (c .before .before .least .ensures) (c .scaled .ensures)
+returns-2 c =
+    let l = c .before .before .before .before in
+    folds-low _ _ (l .before .before .biased .ensures) (l .before .trailing .ensures) (l .last .ensures) _ (c .before .before .before .if1 .left)
+    (c .before .if2 .taken) (c .before .before .least .ensures) (c .scaled .ensures)
 
 sub-power : tie.Need-sub-power
 sub-power c = search needs
@@ -36,21 +43,32 @@ power-requires : tie.Need-power-requires
 power-requires c κs = search needs
 
 add-scaled : tie.Need-add-scaled
-add-scaled c = record { fits = omega (arith, c .power .ensures, pow-mono {i = c .before .before .before .before .before .before .before .args .precision - 1} {j = 52} (omega (arith, c .before .before .before .before .before .before .before .pre .0 .most)), rest-below (c .before .before .before .before .before .before .before .args .pattern) (c .before .before .before .before .before .before .before .args .precision - 1) 52 (omega (arith, c .before .before .before .before .before .before .before .pre .0 .most)) (c .before .before .before .before .before .trailing .ensures)) }
+add-scaled c =
+    let p = c .before .before .before .before .before in
+    let s = p .before .before in
+    record { fits = omega (arith, significand-below (s .args .pattern) (s .args .precision) (s .pre .0 .most) (c .power .ensures) (p .trailing .ensures)) }
 
 sub-scaled : tie.Need-sub-scaled
 sub-scaled c = search needs
 
 add-scaled-2 : tie.Need-add-scaled-2
 add-scaled-2 c =
-    let s = c .before .before .before .before .before .before .before in
-    record { fits = omega (arith, s .pre .1, rest-below (s .args .pattern / 2 ^ (s .args .precision - 1)) (s .args .field) 11 (s .pre .0 .field-most) (c .before .before .before .before .before .before .biased .ensures)) }
+    let p = c .before .before .before .before .before .before in
+    let s = p .before in
+    let exponent = rest-below (s .args .pattern / 2 ^ (s .args .precision - 1)) (s .args .field) 11 (s .pre .0 .field-most) (p .biased .ensures) in
+    record { fits = omega (arith, s .pre .1) }
 
 scaled-requires-2 : tie.Need-scaled-requires-2
-scaled-requires-2 c κs = omega (arith, c .power .ensures, pow-mono {i = c .before .before .before .before .before .before .before .args .precision - 1} {j = 52} (omega (arith, c .before .before .before .before .before .before .before .pre .0 .most)), rest-below (c .before .before .before .before .before .before .before .args .pattern) (c .before .before .before .before .before .before .before .args .precision - 1) 52 (omega (arith, c .before .before .before .before .before .before .before .pre .0 .most)) (c .before .before .before .before .before .trailing .ensures))
+scaled-requires-2 c κs =
+    let p = c .before .before .before .before .before in
+    let s = p .before .before in
+    omega (arith, significand-below (s .args .pattern) (s .args .precision) (s .pre .0 .most) (c .power .ensures) (p .trailing .ensures))
 
 returns-3 : tie.Need-returns-3
-returns-3 c = folds-high _ _ (c .before .before .before .before .before .before .before .biased .ensures) (c .before .before .before .before .before .before .trailing .ensures) (c .before .before .before .before .before .last .ensures) _ (c .before .before .before .before .if1 .left) (c .before .before .if2 .left) (c .before .before .before .least .ensures) (c .before .power .ensures) (c .scaled2 .ensures)
+returns-3 c =
+    let l = c .before .before .before .before .before in
+    folds-high _ _ (l .before .before .biased .ensures) (l .before .trailing .ensures) (l .last .ensures) _ (c .before .before .before .before .if1 .left)
+    (c .before .before .if2 .left) (c .before .before .before .least .ensures) (c .before .power .ensures) (c .scaled2 .ensures)
 
 pub magnitude-spec : {M : Type 1} → statement M
 magnitude-spec =
