@@ -1,6 +1,6 @@
 -- Powers of two and masks in one word. Assumes nothing.
 use mathlib.Core.Path.{_≡_, ap, _∙_}
-use Prim.Native.Nat.{ℕ, _+_, _-_, _*_, _%_, _^_, _≤_, _<_}
+use Prim.Native.Nat.{ℕ, _-_, _*_, _%_, _^_, _≤_, _<_}
 use native.Mathlib.Nat.{mod-lt}
 use native.Mathlib.Omega.{arith}
 use lib.Bits.{bitAnd, and-mask}
@@ -19,7 +19,3 @@ masked-below n k j h e = omega (arith, masked n k e, mod-lt n (pow-pos k), pow-m
 -- a remainder by a power is below each power that is as large
 pub rest-below : (n k j : ℕ) {r : ℕ} → k ≤ j → r ≡ n % 2 ^ k → r < 2 ^ j
 rest-below n k j h e = omega (arith, e, mod-lt n (pow-pos k), pow-mono h)
-
--- a leading one and T
-pub significand-below : (x p : ℕ) {o t : ℕ} → p ≤ 53 → o ≡ 2 ^ (p - 1) → t ≡ x % 2 ^ (p - 1) → o + t < 2 ^ 53
-significand-below x p h e f = omega (arith, e, rest-below x (p - 1) 52 (omega arith) f, pow-mono {i = p - 1} {j = 52} (omega arith))
