@@ -27,7 +27,7 @@ pub record Folds (n : ℕ) (r : Wide) : Type 0 where
   pub some : whole ≡ 0 → r .high ≡ 0
 
 -- ---- every number past 2^64 is past the limit on its side
-limit-word : (s : Sign) (w : ℕ) (neg : Bool) → w ≤ 64 → limit s w neg < 2 ^ 64
+pub limit-word : (s : Sign) (w : ℕ) (neg : Bool) → w ≤ 64 → limit s w neg < 2 ^ 64
 unfolding limit
 limit-word signed w true h = omega (arith, half-word w h)
 limit-word signed w false h = omega (arith, half-word w h)

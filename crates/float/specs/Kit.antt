@@ -10,9 +10,13 @@ use lib.IntN.{ℤ}
 use lib.Ieee.{Float, inf, fin, Format, up, down, odd, units, round, ofBits}
 use lib.Ieee.{nan as notNumber, binary32 as kit32, binary64 as kit64, nearest as kitNearest, ofFields as kitFields}
 use lib.Ieee.Digits.{odd-val}
+use lib.Ieee.Fits.{down-pos}
+use lib.Pow.{pow-pos}
 use borrow.Author.Tests.{ne-eqb, lt-ltb, le-ltb, leb-true, leb-false, eqb-true, eqb-false}
-use Rattle.laws.specs.Nearest.{nearestEven, nearestBy}
-use Rattle.float.specs.Meaning.{Binary, binary32, binary64, least, Value, nan, infinite, finite, ofFields, valueOf, significand, unit, nearestSteps, rounded}
+use Rattle.laws.specs.Nearest.{nearestEven, nearestBy, nearest-same}
+use Rattle.format.specs.declared.Manner.{Manner}
+use Rattle.format.specs.Meaning.{Sign, settle, withSign, Outcome, refused}
+use Rattle.float.specs.Meaning.{Binary, binary32, binary64, least, Value, nan, infinite, finite, ofFields, valueOf, rawOf, infinity, ofValue, significand, unit, nearestSteps, rounded}
 
 abbrev pub ofKit : Format → Binary
 ofKit kit32 = binary32
@@ -68,6 +72,24 @@ pattern-agrees kit64 x =
     let e : x % 2 ^ 63 / 2 ^ 52 ≡ x / 2 ^ 52 % 2 ^ 11 = omega arith in
     subst (λ (n : ℕ). Agrees binary64 (kitFields kit64 (leb (2 ^ 63) x) (x % 2 ^ 63 / 2 ^ 52) (x % 2 ^ 52)) (ofFields binary64 (leb (2 ^ 63) x) n (x % 2 ^ 52))) e
     (fields-agree kit64 (leb (2 ^ 63) x) (x % 2 ^ 63 / 2 ^ 52) (x % 2 ^ 52))
+
+-- ---- so the outcome may be said in the kit's words: m x 2^e x 2^F rounded to the nearest, ties to even, whatever way the number is written
+unfoldable pub outcomeOf : Manner → Sign → ℕ → ℕ → Float → Outcome
+outcomeOf k s w f notNumber = refused 30
+outcomeOf k s w f (inf neg) = infinity k s w neg
+outcomeOf k s w f (fin neg m e) = settle k s w (withSign neg (nearestEven (m * up e * 2 ^ f) (down e)))
+
+module _ (b : Binary) (k : Manner) (s : Sign) (w f : ℕ) where
+  same-outcome : {y : Float} {v : Value} → Agrees b y v → ofValue b k s w f v ≡ outcomeOf k s w f y
+  unfolding ofValue outcomeOf rawOf
+  same-outcome not-numbers = refl
+  same-outcome infinities = refl
+  same-outcome (numbers {s = neg} {m = m} {e = e} {n = n} h) =
+      ap (λ (r : ℕ). settle k s w (withSign neg r))
+      (nearest-same (n * 2 ^ f) (2 ^ least b) (m * up e * 2 ^ f) (down e) (pow-pos (least b)) (down-pos e) (omega (arith, ap (λ (a : ℕ). a * 2 ^ f) h)))
+
+pub outcome-agrees : (g : Format) (k : Manner) (s : Sign) (w f x : ℕ) → ofValue (ofKit g) k s w f (valueOf (ofKit g) x) ≡ outcomeOf k s w f (ofBits g x)
+outcome-agrees g k s w f x = same-outcome (ofKit g) k s w f (pattern-agrees g x)
 
 -- ---- rounding: the kit compares twice the remainder with the divisor
 by-order : (q r d : ℕ) → kitNearest q (compare (r * 2) d) ≡ nearestBy q r d

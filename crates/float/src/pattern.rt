@@ -72,7 +72,7 @@ fn place(e: u32) -> u32
 }
 
 // The least positive number is 2^-least.
-fn least(precision: u32, field: u32) -> u32
+pub fn least(precision: u32, field: u32) -> u32
     requires { ⌜ Small precision field ⌝ }
     ensures { λ r. ⌜ r ≡ leastOf (binary precision field) ⌝ }
 {

@@ -35,7 +35,7 @@ fn nearest(m: u64, k: u32) -> u64
     0
 }
 
-fn by_rest(whole: u64, rest: u64, unit: u64) -> u64
+pub fn by_rest(whole: u64, rest: u64, unit: u64) -> u64
     requires { ⌜ (whole < 2 ^ 63) × (rest < 2 ^ 63) ⌝ }
     ensures { λ r. ⌜ r ≡ nearestBy whole rest unit ⌝ }
 {
