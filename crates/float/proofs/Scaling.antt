@@ -1,5 +1,5 @@
 -- A word times 2^up over 2^down, rounded, as the code finds it: the powers are cancelled, and past two words only whole 2^64 are left. Assumes nothing.
-use mathlib.Core.Path.{_≡_, refl, sym, ap, ap₂, _∙_, subst}
+use mathlib.Core.Path.{_≡_, sym, ap, ap₂, _∙_}
 use Prim.Native.Nat.{ℕ, _+_, _-_, _*_, _/_, _%_, _^_, _≤_, _<_}
 use native.Mathlib.Nat.{eq-of-mul-eq-mul-right}
 use native.Mathlib.Omega.{arith}

@@ -3,7 +3,6 @@
 use mathlib.Core.Bool.{Bool, false, cond}
 use Prim.Native.Nat.{ℕ, _+_, _-_, _*_, _/_, _%_, _^_}
 use lib.Dec.{eqb, leb, ltb}
-use lib.IntN.{ℤ}
 use lib.Ieee.{size}
 use Rattle.laws.specs.Nearest.{nearestEven}
 use Rattle.format.specs.declared.Manner.{Manner}

@@ -1,6 +1,6 @@
 -- The meaning as the code goes about it: the refusals as numbers, and one magnitude for every pattern that is not refused, where an infinity counts
 -- as 2^64. `from-as` says that this is the meaning. Assumes nothing.
-use mathlib.Core.Path.{_≡_, refl, sym, ap, _∙_, subst}
+use mathlib.Core.Path.{_≡_, refl, sym, ap, _∙_, ap₂, subst}
 use mathlib.Core.Bool.{Bool, true, false, cond}
 use Prim.Native.Nat.{ℕ, _+_, _-_, _*_, _^_, _≤_, _<_}
 use native.Mathlib.Omega.{arith}
@@ -8,14 +8,14 @@ use lib.Dec.{eqb}
 use lib.IntN.{ℤ}
 use Rattle.format.specs.declared.Manner.{Manner}
 use Rattle.format.specs.declared.Manner.the-variants.{Strict, Saturating, Wrapping, Overflowing}
-use Rattle.format.specs.Meaning.{Sign, lowest, highest, isWidth, hold, settle, unless, faultOf, withSign, exact, Outcome, done, refused}
-use lib.Pow.{pow-add}
+use Rattle.format.specs.Meaning.{Sign, isWidth, settle, unless, faultOf, withSign, exact, done, refused}
+use lib.Pow.{pow-add, pow-mono}
 use borrow.Author.Tests.{eqb-true, eqb-false, eq-eqb, ne-eqb}
 use Rattle.laws.specs.Nearest.{nearestEven}
 use Rattle.wide.specs.declared.Wide.{Wide}
 use Rattle.format.specs.Fault.{fault-free, width-bounds}
 use Rattle.format.specs.Settle.{unless-fault, unless-none}
-use Rattle.float.specs.Meaning.{Binary, least, negative, biased, trailing, steps, Value, nan, infinite, finite, ofFields, valueOf, rawOf, infinity, ofValue, fromOf}
+use Rattle.float.specs.Meaning.{Binary, least, negative, biased, trailing, steps, nan, infinite, finite, ofFields, valueOf, rawOf, infinity, ofValue, fromOf}
 use Rattle.float.specs.Folds.{Folds, settle-folds, far-end}
 
 abbrev pub binary : ℕ → ℕ → Binary
@@ -137,20 +137,20 @@ module _ {k : Manner} where
   infinite-overflowing e = rw e
 
 -- ---- one law for each way out of the tests, e, t and l what the code finds of the pattern
-module _ (b : Binary) (x : ℕ) {e t l : ℕ} (exponent : e ≡ biased b x) (digits : t ≡ trailing b x) (end : l ≡ 2 ^ b .field - 1) where
+module _ (b : Binary) (x : ℕ) {e l : ℕ} (exponent : e ≡ biased b x) (end : l ≡ 2 ^ b .field - 1) where
   at-end : e ≡ l → eqb (biased b x) (2 ^ b .field - 1) ≡ true
   at-end h = eq-eqb (biased b x) (2 ^ b .field - 1) (sym exponent ∙ h ∙ end)
 
   before-end : (e ≡ l → ⊥) → eqb (biased b x) (2 ^ b .field - 1) ≡ false
   before-end h = ne-eqb (biased b x) (2 ^ b .field - 1) (λ z. h (exponent ∙ z ∙ sym end))
 
-  pub fault-infinite : (k : Manner) {r : ℕ} → e ≡ l → t ≡ 0 → r ≡ infiniteFault k → r ≡ patternFault b k x
+  pub fault-infinite : (k : Manner) {t r : ℕ} → e ≡ l → t ≡ trailing b x → t ≡ 0 → r ≡ infiniteFault k → r ≡ patternFault b k x
   unfolding patternFault
-  fault-infinite k h z q = simp (at-end h, eq-eqb (trailing b x) 0 (sym digits ∙ z)) q
+  fault-infinite k h digits z q = simp (at-end h, eq-eqb (trailing b x) 0 (sym digits ∙ z)) q
 
-  pub fault-nan : (k : Manner) → e ≡ l → (t ≡ 0 → ⊥) → 30 ≡ patternFault b k x
+  pub fault-nan : (k : Manner) {t : ℕ} → e ≡ l → t ≡ trailing b x → (t ≡ 0 → ⊥) → 30 ≡ patternFault b k x
   unfolding patternFault
-  fault-nan k h z = simp (at-end h, ne-eqb (trailing b x) 0 (λ y. z (digits ∙ y)))
+  fault-nan k h digits z = simp (at-end h, ne-eqb (trailing b x) 0 (λ y. z (digits ∙ y)))
 
   pub fault-none : (k : Manner) → (e ≡ l → ⊥) → 0 ≡ patternFault b k x
   unfolding patternFault
@@ -160,15 +160,34 @@ module _ (b : Binary) (x : ℕ) {e t l : ℕ} (exponent : e ≡ biased b x) (dig
   unfolding magnitudeOf
   folds-infinite f h = rw (at-end h) (record { whole = 1; same = omega arith; none = λ z. z; some = λ z. z })
 
-  -- d places down: a number without a leading one, and one with it
-  pub folds-low : (f : ℕ) {d : ℕ} {r : Wide} → (e ≡ l → ⊥) → e ≡ 0 → d ≡ least b → Folds (nearestEven (t * 2 ^ f) (2 ^ d)) r → Folds (magnitudeOf b f x) r
-  unfolding magnitudeOf rawOf
-  folds-low f {d} {r} h z p folds =
-      subst (λ (n : ℕ). Folds n r) (sym (rw (before-end h, eq-eqb (biased b x) 0 (sym exponent ∙ z), p, digits) refl)) folds
+-- ---- a number that is no infinity: its significand m, e - 1 places above the least positive number
+pub record Significand (p e t m : ℕ) : Type 0 where
+  pub same : m ≡ cond (eqb e 0) t (2 ^ (p - 1) + t)
+  pub below : m < 2 ^ 53
 
-  pub folds-high : (f : ℕ) {d o : ℕ} {r : Wide} → (e ≡ l → ⊥) → (e ≡ 0 → ⊥) → d ≡ least b → o ≡ 2 ^ (b .precision - 1)
-      → Folds (nearestEven ((o + t) * 2 ^ (f + (e - 1))) (2 ^ d)) r → Folds (magnitudeOf b f x) r
-  unfolding magnitudeOf rawOf
-  folds-high f {d} {o} {r} h z p q folds =
-      let powers : (o + t) * 2 ^ (f + (e - 1)) ≡ (o + t) * 2 ^ (e - 1) * 2 ^ f = rw pow-add (omega arith) in
-      subst (λ (n : ℕ). Folds n r) (ap (λ (n : ℕ). nearestEven n (2 ^ d)) powers ∙ sym (rw (before-end h, ne-eqb (biased b x) 0 (λ y. z (exponent ∙ y)), ← digits, ← exponent, ← p, ← q) refl)) folds
+module _ (p e t : ℕ) (most : p ≤ 53) (some : 2 ≤ p) (bits : t < 2 ^ (p - 1)) where
+  half-below : 2 ^ (p - 1) ≤ 2 ^ 52
+  half-below = pow-mono {i = p - 1} {j = 52} (omega arith)
+
+  pub subnormal : e ≡ 0 → Significand p e t t
+  subnormal z = record { same = rw z; below = omega (arith, half-below) }
+
+  pub leading-fits : {o : ℕ} → o ≡ 2 ^ (p - 1) → o + t < 2 ^ 53
+  leading-fits q = omega (arith, half-below)
+
+  pub leading : {o : ℕ} → (e ≡ 0 → ⊥) → o ≡ 2 ^ (p - 1) → Significand p e t (o + t)
+  leading z q = record { same = rw (ne-eqb e 0 z, q); below = leading-fits q }
+
+steps-as : (b : Binary) (e t : ℕ) {m : ℕ} → m ≡ cond (eqb e 0) t (2 ^ (b .precision - 1) + t) → steps b e t ≡ m * 2 ^ (e - 1)
+steps-as b e t {m} q = go (eqb e 0) refl q
+  where
+    go : (z : Bool) → eqb e 0 ≡ z → m ≡ cond z t (2 ^ (b .precision - 1) + t) → cond z t ((2 ^ (b .precision - 1) + t) * 2 ^ (e - 1)) ≡ m * 2 ^ (e - 1)
+    go true z q = rw (eqb-true e 0 z) (omega arith)
+    go false z q = rw q
+
+pub folds-finite : (b : Binary) (x f : ℕ) {e t l m u d : ℕ} {r : Wide} → e ≡ biased b x → t ≡ trailing b x → l ≡ 2 ^ b .field - 1 → (e ≡ l → ⊥)
+    → Significand (b .precision) e t m → u ≡ e - 1 → d ≡ least b → Folds (nearestEven (m * 2 ^ (f + u)) (2 ^ d)) r → Folds (magnitudeOf b f x) r
+unfolding magnitudeOf rawOf
+folds-finite b x f {e} {t} {l} {m} {u} {d} {r} exponent digits end h sig q p folds =
+    let powers : m * 2 ^ (f + u) ≡ steps b e t * 2 ^ f = rw (pow-add 2 f u, q, steps-as b e t (sig .same)) (omega arith) in
+    subst (λ (n : ℕ). Folds n r) (ap₂ (λ (n k : ℕ). nearestEven n (2 ^ k)) powers p ∙ sym (rw (before-end b x exponent end h, ← digits, ← exponent))) folds

@@ -1,8 +1,8 @@
 // What a pattern says: its sign, its biased exponent E and its trailing significand T are parts of one number, by shifts and masks.
 ghost use mathlib.Core.Path.{_≡_};
-ghost use Prim.Native.Nat.{_-_, _^_, _≤_};
+ghost use Prim.Native.Nat.{_-_, _^_, _≤_, _<_};
 ghost use Rattle.float.specs.Meaning.{negative as negativeOf, biased as biasedOf, trailing as trailingOf, least as leastOf};
-ghost use Rattle.float.specs.Parts.{binary, Small, magnitudeOf};
+ghost use Rattle.float.specs.Parts.{binary, Small, Significand, magnitudeOf};
 ghost use Rattle.float.specs.Folds.{Folds};
 use crate::bits;
 use crate::rounding;
@@ -43,15 +43,32 @@ pub fn magnitude(pattern: u64, precision: u32, field: u32, frac: u32) -> Wide
     ensures { λ r. ⌜ Folds (magnitudeOf (binary precision field) frac pattern) r ⌝ }
 {
     let e = biased(pattern, precision, field);
-    let t = trailing(pattern, precision, field);
     if e == last(field) {
         return Wide { high: 1, low: 0 };
     }
-    let down = least(precision, field);
+    let m = significand(e, trailing(pattern, precision, field), precision);
+    rounding::scaled(m, frac + place(e), least(precision, field))
+}
+
+// T with the leading one before it, which a subnormal number has not.
+fn significand(e: u32, t: u64, precision: u32) -> u64
+    requires { ⌜ (2 ≤ precision) × (precision ≤ 53) × (t < 2 ^ (precision - 1)) ⌝ }
+    ensures { λ r. ⌜ Significand precision e t r ⌝ }
+{
     if e == 0 {
-        return rounding::scaled(t, frac, down);
+        return t;
     }
-    rounding::scaled(bits::power(precision - 1) + t, frac + (e - 1), down)
+    bits::power(precision - 1) + t
+}
+
+// How many places the significand stands above the least positive number. A subnormal number stands where the first normal ones do.
+fn place(e: u32) -> u32
+    ensures { λ r. ⌜ r ≡ e - 1 ⌝ }
+{
+    if 0 < e {
+        return e - 1;
+    }
+    0
 }
 
 // The least positive number is 2^-least.

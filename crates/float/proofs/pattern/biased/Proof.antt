@@ -1,5 +1,4 @@
 -- `float::pattern::biased` meets its contract: a shift is a quotient and a mask a remainder. Assumes nothing.
-use mathlib.Core.Path.{_∙_}
 use Prim.Native.Nat.{_-_, _/_, _^_}
 use native.Mathlib.Omega.{arith}
 use Rattle.float.proofs.Masks.{masked, masked-below}

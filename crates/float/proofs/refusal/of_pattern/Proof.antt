@@ -17,13 +17,17 @@ of-infinity-requires : tie.Need-of-infinity-requires
 of-infinity-requires c κs = search needs
 
 returns : tie.Need-returns
-returns c = fault-infinite _ _ (c .before .before .before .before .before .biased .ensures) (c .before .before .before .before .trailing .ensures) (c .before .before .before .last .ensures) _ (c .before .before .if1 .taken) (c .before .if2 .taken) (c .of-infinity .ensures)
+returns c =
+    let l = c .before .before .before in
+    fault-infinite _ _ (l .before .before .biased .ensures) (l .last .ensures) _ (c .before .before .if1 .taken) (l .before .trailing .ensures) (c .before .if2 .taken) (c .of-infinity .ensures)
 
 returns-2 : tie.Need-returns-2
-returns-2 c = fault-nan _ _ (c .before .before .before .before .biased .ensures) (c .before .before .before .trailing .ensures) (c .before .before .last .ensures) _ (c .before .if1 .taken) (c .if2 .left)
+returns-2 c =
+    let l = c .before .before in
+    fault-nan _ _ (l .before .before .biased .ensures) (l .last .ensures) _ (c .before .if1 .taken) (l .before .trailing .ensures) (c .if2 .left)
 
 returns-3 : tie.Need-returns-3
-returns-3 c = fault-none _ _ (c .before .before .before .biased .ensures) (c .before .before .trailing .ensures) (c .before .last .ensures) _ (c .if1 .left)
+returns-3 c = fault-none _ _ (c .before .before .before .biased .ensures) (c .before .last .ensures) _ (c .if1 .left)
 
 pub of-pattern-spec : {M : Type 1} → statement M
 of-pattern-spec =

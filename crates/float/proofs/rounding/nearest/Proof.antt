@@ -1,6 +1,6 @@
 -- `float::rounding::nearest` meets its contract: below 64 places by the mask, and past that there is less than half. Assumes nothing.
 use native.Mathlib.Omega.{arith}
-use Prim.Native.Nat.{_/_, _^_}
+use Prim.Native.Nat.{_^_}
 use native.Mathlib.Nat.{div-le-self}
 use Rattle.float.proofs.Masks.{masked-below}
 use Rattle.float.proofs.Scaling.{by-mask, nothing-left}
