@@ -21,13 +21,19 @@ use Rattle.format.specs.Fault.{fault-free, width-bounds}
 use Rattle.format.specs.Settle.{unless-none}
 use Rattle.format.specs.Theorems.{InRange, limit, lowest-out, highest-out, settle-fits}
 use Rattle.float.specs.Folds.{limit-word}
-use Rattle.float.specs.Meaning.{Binary, bias, least, negative, biased, trailing, steps, finite, ofFields, valueOf, rawOf, ofValue, fromOf, unit, significand, nearestSteps, joined, patternBy, patternOf}
+use Rattle.float.specs.Meaning.{Binary, bias, least, negative, biased, trailing, steps, finite, ofFields, valueOf, rawOf, ofValue, fromOf, unit, significand, nearestSteps, rounded, joined, patternBy, patternOf}
 use Rattle.float.specs.Parts.{binary, Small}
 use Rattle.float.specs.Encoding.{Roomy, Digits, digits-of, unit-is, significand-is, steps-below, place-below, scaled-least, scaled-most, scaled-few, scaled-many, double, power-sub, roomy-least}
 
 -- ---- "nearest, ties to even": n / 2^f in units of the significand's last place
 pub significand-nearest : (b : Binary) (n f : ℕ) → Nearest (n * 2 ^ least b) (2 ^ f * 2 ^ unit b n f) (significand b n f)
 significand-nearest b n f = nearest (n * 2 ^ least b) (2 ^ f * 2 ^ unit b n f) (mul-pos (pow-pos f) (pow-pos (unit b n f)))
+
+-- of 0 it is 0
+significand-zero : (b : Binary) (n f : ℕ) → n ≡ 0 → significand b n f ≡ 0
+significand-zero b n f z =
+    let u = 2 ^ f * 2 ^ unit b n f in
+    ap (λ (v : ℕ). nearestEven (v * 2 ^ least b) u) z ∙ nearest-none (0 * 2 ^ least b) u (omega (arith, mul-pos (pow-pos f) (pow-pos (unit b n f))))
 
 -- ---- the fields that `joined` puts together are found again
 module _ (p w : ℕ) (neg : Bool) (e t : ℕ) (low : t < 2 ^ (p - 1)) (most : e < 2 ^ w - 1) where
@@ -76,13 +82,16 @@ module _ (p w : ℕ) (neg : Bool) (e t : ℕ) (low : t < 2 ^ (p - 1)) (most : e 
 
 -- ---- the pattern stands for the rounded number, which is always finite here
 module _ (p w n f : ℕ) (room : Roomy p w) (word : n < 2 ^ 64) (frac : f ≤ 64) (neg : Bool) where
+  none-below : n ≡ 0 → nearestSteps (binary p w) n f < 2 ^ (least (binary p w) + bias (binary p w) + 1)
+  unfolding nearestSteps
+  none-below z =
+      rw (significand-zero (binary p w) n f z) (omega (arith, pow-pos (least (binary p w) + bias (binary p w) + 1)))
+
   value-zero : n ≡ 0 → valueOf (binary p w) (patternOf (binary p w) neg n f) ≡ finite neg (nearestSteps (binary p w) n f)
   unfolding patternOf patternBy nearestSteps
   value-zero z =
       let u = unit (binary p w) n f in
-      let c : significand (binary p w) n f ≡ 0 =
-      ap (λ (v : ℕ). nearestEven (v * 2 ^ least (binary p w)) (2 ^ f * 2 ^ u)) z ∙ nearest-none (0 * 2 ^ least (binary p w)) (2 ^ f * 2 ^ u) (omega (arith, mul-pos (pow-pos f) (pow-pos u))) in
-      rw (c, lt-ltb (0 * 2 ^ u) (2 ^ (least (binary p w) + bias (binary p w) + 1)) (omega (arith, pow-pos (least (binary p w) + bias (binary p w) + 1))), lt-ltb 0 (2 ^ (p - 1)) (pow-pos (p - 1)))
+      rw (significand-zero (binary p w) n f z, lt-ltb (0 * 2 ^ u) (2 ^ (least (binary p w) + bias (binary p w) + 1)) (omega (arith, pow-pos (least (binary p w) + bias (binary p w) + 1))), lt-ltb 0 (2 ^ (p - 1)) (pow-pos (p - 1)))
       (joined-value p w neg 0 0 (pow-pos (p - 1)) (omega (arith, pow-mono {i = 8} {j = w} (room .roomy))) ∙ ap (λ (v : ℕ). finite neg v) (omega arith))
 
   value-some : (d : ℕ) → Digits n d → valueOf (binary p w) (patternOf (binary p w) neg n f) ≡ finite neg (nearestSteps (binary p w) n f)
@@ -121,6 +130,15 @@ module _ (p w n f : ℕ) (room : Roomy p w) (word : n < 2 ^ 64) (frac : f ≤ 64
       go : Dec (1 ≤ n) → valueOf (binary p w) (patternOf (binary p w) neg n f) ≡ finite neg (nearestSteps (binary p w) n f)
       go (yes k) = value-some (64 - leadingZeros 64 n) (digits-of n k word)
       go (no k) = value-zero (omega arith)
+
+  -- which is what the standard's rounding gives
+  pub pattern-rounded : valueOf (binary p w) (patternOf (binary p w) neg n f) ≡ rounded (binary p w) neg n f
+  unfolding rounded
+  pattern-rounded = pattern-value ∙ sym (rw (lt-ltb (nearestSteps (binary p w) n f) (2 ^ (least (binary p w) + bias (binary p w) + 1)) (below (decLe 1 n))))
+    where
+      below : Dec (1 ≤ n) → nearestSteps (binary p w) n f < 2 ^ (least (binary p w) + bias (binary p w) + 1)
+      below (yes k) = steps-below p w n f (64 - leadingZeros 64 n) room (digits-of n k word) frac
+      below (no k) = none-below (omega arith)
 
 -- ---- n has at most p significant bits: all others are zeros at its end
 pub record Short (p n : ℕ) : Type 0 where
@@ -180,10 +198,7 @@ module _ (p w n f : ℕ) (room : Roomy p w) (word : n < 2 ^ 64) (frac : f ≤ 64
           (omega (arith, ap (λ (v : ℕ). v * (2 ^ g * 2 ^ f)) (kept p n d short digits)))
       go (no k) =
           let z : n ≡ 0 = omega arith in
-          let u = unit (binary p w) n f in
-          let c : significand (binary p w) n f ≡ 0 =
-          ap (λ (v : ℕ). nearestEven (v * 2 ^ l) (2 ^ f * 2 ^ u)) z ∙ nearest-none (0 * 2 ^ l) (2 ^ f * 2 ^ u) (omega (arith, mul-pos (pow-pos f) (pow-pos u))) in
-          rw (c, z) (omega arith)
+          rw (significand-zero (binary p w) n f z, z) (omega arith)
 
 -- ---- to a pattern and back
 in-word : (s : Sign) (w : ℕ) (a : ℤ) → w ≤ 64 → InRange s w a → natAbs a < 2 ^ 64
