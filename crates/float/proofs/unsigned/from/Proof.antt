@@ -20,7 +20,12 @@ fit-requires : tie.Need-fit-requires
 fit-requires c κs = met _ _ _ _ _ (c .before .before .before .of-call .ensures) (c .before .before .if1 .taken) .width
 
 returns : tie.Need-returns
-returns c = c .fit .ensures ∙ ap unsignedAnswer (from-done _ _ _ _ _ (c .before .before .before .before .of-call .ensures) unsigned (c .before .before .before .if1 .taken) (c .before .before .negative .ensures) (c .before .magnitude .ensures))
+returns c =
+    let m = c .before in
+    let n = m .before in
+    let fault = n .before .before in
+    c .fit .ensures
+    ∙ ap unsignedAnswer (from-done _ _ _ _ _ (fault .of-call .ensures) unsigned (n .before .if1 .taken) (n .negative .ensures) (m .magnitude .ensures))
 
 returns-2 : tie.Need-returns-2
 returns-2 c = refused-unsigned (from-refused _ _ _ _ _ (c .before .of-call .ensures) unsigned (c .if1 .left))
