@@ -1,5 +1,6 @@
-// Compares the archive's conversions with models written here from document 01's words: format to format with an exact one over 128 bits, patterns with the
-// machine's own f32 and f64 (a raw's conversion rounds to nearest, ties to even, and the division by 2^F is exact). Built and run by oracle/convert.sh.
+// Compares the archive's conversions with models written here from document 01's words: format to format with an exact one over 128 bits,
+// patterns with the machine's own f32 and f64 (a raw's conversion rounds to nearest, ties to even, and the division by 2^F is exact). Built
+// and run by oracle/convert.sh.
 
 #[repr(C)]
 #[derive(Clone, Copy)]
@@ -18,10 +19,38 @@ struct Unsigned {
 }
 
 extern "C" {
-    fn tq_convert_signed_to_signed(raw: i64, from_width: u32, from_frac: u32, width: u32, frac: u32, manner: u32) -> Signed;
-    fn tq_convert_signed_to_unsigned(raw: i64, from_width: u32, from_frac: u32, width: u32, frac: u32, manner: u32) -> Unsigned;
-    fn tq_convert_unsigned_to_signed(raw: u64, from_width: u32, from_frac: u32, width: u32, frac: u32, manner: u32) -> Signed;
-    fn tq_convert_unsigned_to_unsigned(raw: u64, from_width: u32, from_frac: u32, width: u32, frac: u32, manner: u32) -> Unsigned;
+    fn tq_convert_signed_to_signed(
+        raw: i64,
+        from_width: u32,
+        from_frac: u32,
+        width: u32,
+        frac: u32,
+        manner: u32,
+    ) -> Signed;
+    fn tq_convert_signed_to_unsigned(
+        raw: i64,
+        from_width: u32,
+        from_frac: u32,
+        width: u32,
+        frac: u32,
+        manner: u32,
+    ) -> Unsigned;
+    fn tq_convert_unsigned_to_signed(
+        raw: u64,
+        from_width: u32,
+        from_frac: u32,
+        width: u32,
+        frac: u32,
+        manner: u32,
+    ) -> Signed;
+    fn tq_convert_unsigned_to_unsigned(
+        raw: u64,
+        from_width: u32,
+        from_frac: u32,
+        width: u32,
+        frac: u32,
+        manner: u32,
+    ) -> Unsigned;
     fn tq_to_f32_signed(raw: i64, width: u32, frac: u32) -> Unsigned;
     fn tq_to_f64_signed(raw: i64, width: u32, frac: u32) -> Unsigned;
     fn tq_to_f32_unsigned(raw: u64, width: u32, frac: u32) -> Unsigned;
@@ -146,7 +175,9 @@ impl Count {
         let (got32, got64) = unsafe {
             match f.signed {
                 true => (tq_to_f32_signed(raw as i64, f.width, f.frac), tq_to_f64_signed(raw as i64, f.width, f.frac)),
-                false => (tq_to_f32_unsigned(raw as u64, f.width, f.frac), tq_to_f64_unsigned(raw as u64, f.width, f.frac)),
+                false => {
+                    (tq_to_f32_unsigned(raw as u64, f.width, f.frac), tq_to_f64_unsigned(raw as u64, f.width, f.frac))
+                }
             }
         };
         let answer = |a: Unsigned| (a.number, a.flag, a.value as i128);
