@@ -52,6 +52,7 @@ enum {
     TQ_EXP_NO_DIGITS = 17, /* a mark with no digit after it */
     TQ_TOO_MANY_EXP = 18,
     TQ_EXP_OVERFLOW = 19,  /* the exponent is outside -2^31 to 2^31 - 1 */
+    TQ_NOT_A_NUMBER = 30,  /* NaN, or an infinity outside the saturating manner */
     TQ_ZERO_DIVISOR = 31,
     TQ_NOT_POSITIVE = 32,  /* logarithm of zero or of a negative number */
     TQ_WRONG_TAPS = 40     /* taps not 1 to 64 */
@@ -112,6 +113,26 @@ tq_signed tq_from_be_bytes_signed(const uint8_t *bytes, size_t len, uint32_t wid
 tq_unsigned tq_from_be_bytes_unsigned(const uint8_t *bytes, size_t len, uint32_t width, uint32_t frac);
 tq_signed tq_from_le_bytes_signed(const uint8_t *bytes, size_t len, uint32_t width, uint32_t frac);
 tq_unsigned tq_from_le_bytes_unsigned(const uint8_t *bytes, size_t len, uint32_t width, uint32_t frac);
+
+/* A raw of one format as a raw of another: the number is kept, extra fraction bits are dropped, rounding toward minus infinity, then the manner.
+ * TQ_WRONG_WIDTH for either width goes before TQ_WRONG_FRAC for either number of fraction bits. */
+tq_signed tq_convert_signed_to_signed(int64_t raw, uint32_t from_width, uint32_t from_frac, uint32_t width, uint32_t frac, uint32_t manner);
+tq_unsigned tq_convert_signed_to_unsigned(int64_t raw, uint32_t from_width, uint32_t from_frac, uint32_t width, uint32_t frac, uint32_t manner);
+tq_signed tq_convert_unsigned_to_signed(uint64_t raw, uint32_t from_width, uint32_t from_frac, uint32_t width, uint32_t frac, uint32_t manner);
+tq_unsigned tq_convert_unsigned_to_unsigned(uint64_t raw, uint32_t from_width, uint32_t from_frac, uint32_t width, uint32_t frac, uint32_t manner);
+
+/* The pattern of the f32 or f64 nearest to a raw's number, ties to even, as value; 0 gives the positive zero. An f32 pattern is below 2^32. */
+tq_unsigned tq_to_f32_signed(int64_t raw, uint32_t width, uint32_t frac);
+tq_unsigned tq_to_f32_unsigned(uint64_t raw, uint32_t width, uint32_t frac);
+tq_unsigned tq_to_f64_signed(int64_t raw, uint32_t width, uint32_t frac);
+tq_unsigned tq_to_f64_unsigned(uint64_t raw, uint32_t width, uint32_t frac);
+
+/* An IEEE 754 pattern, binary32 or binary64, as a raw: the number x 2^frac rounded to the nearest, ties to even, then the manner. Both zeros are
+ * 0. Saturating takes an infinity to the end of its sign; a NaN, and an infinity in any other manner, is TQ_NOT_A_NUMBER. */
+tq_signed tq_from_f32_signed(uint32_t pattern, uint32_t width, uint32_t frac, uint32_t manner);
+tq_unsigned tq_from_f32_unsigned(uint32_t pattern, uint32_t width, uint32_t frac, uint32_t manner);
+tq_signed tq_from_f64_signed(uint64_t pattern, uint32_t width, uint32_t frac, uint32_t manner);
+tq_unsigned tq_from_f64_unsigned(uint64_t pattern, uint32_t width, uint32_t frac, uint32_t manner);
 
 /* The filter's state: the last 64 samples, newest first. All 0 at the start. */
 typedef struct {

@@ -1,6 +1,6 @@
 // Arithmetic of document 01, module 4: the exact result in whole steps, then the manner of `format`.
 mod bytes;
-mod exact;
+pub mod exact;
 mod refusal;
 pub mod signed;
 pub mod unsigned;

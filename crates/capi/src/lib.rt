@@ -2,8 +2,11 @@
 mod answer;
 pub mod c_arith;
 pub mod c_bytes;
+pub mod c_convert;
 pub mod c_filter;
+pub mod c_from_float;
 pub mod c_log10;
 pub mod c_read;
 pub mod c_settle;
+pub mod c_to_float;
 pub mod c_write;

@@ -1,0 +1,4 @@
+-- What the proofs of more than one function use.
+mod Encodes
+mod Masks
+mod Scaling
