@@ -263,8 +263,43 @@ fn edges(signed: bool, width: u32) -> Vec<i128> {
     near.into_iter().filter(|a| (least..=most).contains(a)).collect()
 }
 
+// The worked examples of src/wrapping.rs's documentation, as it has them, in raws: wrapping, signed, W = 32. One differs, and is said in
+// docs/promises/further.md: the maximum by 0.25 in div_euclid, where the documentation has 0, the wrapped quotient rounded toward zero.
+fn examples(t: &mut Tally) {
+    const MOST: i64 = i32::MAX as i64;
+    const LEAST: i64 = i32::MIN as i64;
+    let singles = [
+        ("int", 802816, 16, 786432), ("int", -802816, 16, -851968), ("frac", 802816, 16, 16384), ("frac", -802816, 16, 49152),
+        ("ceil", 163840, 16, 196608), ("ceil", MOST, 16, LEAST), ("floor", 163840, 16, 131072), ("floor", LEAST, 32, 0),
+        ("round", 163840, 16, 196608), ("round", -163840, 16, -196608), ("round", MOST, 16, LEAST),
+        ("round_ties_even", 163840, 16, 131072), ("round_ties_even", 229376, 16, 262144), ("round_ties_even", MOST, 16, LEAST),
+        ("abs", -327680, 16, 327680), ("abs", LEAST, 16, LEAST), ("signum", -255590, 16, -65536), ("signum", 0, 16, 0), ("signum", 255590, 16, 65536),
+        ("signum", 1 << 30, 31, LEAST), ("signum", 1 << 30, 32, 0), ("signum", LEAST, 32, 0),
+    ];
+    for (name, a, frac, wanted) in singles {
+        let on = ONE.iter().find(|row| row.0 == name).unwrap().1;
+        let found = of_signed(unsafe { on(a, 32, frac, 2) });
+        t.same(found, (0, 0, i128::from(wanted)), || format!("the documentation's {name} of {a}, F = {frac}"));
+    }
+    let pairs = [
+        ("dist", -65536, 262144, 327680), ("dist", LEAST, MOST, -1), ("mean", 196608, 262144, 229376), ("mean", 196608, -262144, -32768),
+        ("div_euclid", 491520, 131072, 196608), ("div_euclid", LEAST, -65536, LEAST), ("div_euclid", MOST, 16384, -65536),
+        ("rem_euclid", 491520, 131072, 98304), ("rem_euclid", -491520, 131072, 32768),
+    ];
+    for (name, a, b, wanted) in pairs {
+        let on = TWO.iter().find(|row| row.0 == name).unwrap().1;
+        let found = of_signed(unsafe { on(a, b, 32, 16, 2) });
+        t.same(found, (0, 0, i128::from(wanted)), || format!("the documentation's {name} of {a} and {b}"));
+    }
+    for (a, b, c, wanted) in [(196608, 32768, 262144, 360448), (MOST, 196608, MOST, -4), (262144, 32768, 196608, 327680)] {
+        let found = of_signed(unsafe { tq_mul_add_signed(a, b, c, 32, 16, 2) });
+        t.same(found, (0, 0, i128::from(wanted)), || format!("the documentation's mul_add of {a}, {b} and {c}"));
+    }
+}
+
 fn main() {
     let mut t = Tally { passed: 0, failed: 0 };
+    examples(&mut t);
     for signed in [true, false] {
         // all raws and all pairs of W = 8, and all pairs with the edges as the third number
         let (least, most) = ends(signed, 8);

@@ -78,7 +78,7 @@ mul-add-most : mulAddOf Wrapping signed 32 16 (pos 2147483647) (pos 196608) (pos
 unfolding isWidth faultOf unless lowest wrap settle
 mul-add-most = refl
 
--- a product that does not fit, and a sum that does
+-- a product that does not fit: 256 - 128 does not fit either, 240 - 128 does
 mul-add-back : mulAddOf Strict signed 8 0 (pos 16) (pos 16) (negsuc 127) ≡ refused 10
 unfolding isWidth faultOf unless lowest highest fits settle
 mul-add-back = refl
@@ -100,7 +100,7 @@ rem-euclid-below : remEuclidOf Wrapping signed 32 16 (negsuc 491519) (pos 131072
 unfolding isWidth faultOf orElse divisorFault unless lowest wrap settle
 rem-euclid-below = refl
 
--- the maximum by 0.25 is 131071, which wraps to -1; the documentation's example has 0, since S wraps the quotient before it takes the whole part
+-- the maximum by 0.25 is 131071, which wraps to -1; the documentation's example has 0, the wrapped quotient rounded toward zero
 div-euclid-most : divEuclidOf Wrapping signed 32 16 (pos 2147483647) (pos 16384) ≡ done (negsuc 65535) false
 unfolding isWidth faultOf orElse divisorFault unless lowest wrap settle quotEuclid
 div-euclid-most = refl
