@@ -2,8 +2,8 @@
 use mathlib.Core.Path.{_≡_, refl}
 use mathlib.Core.Bool.{true, false}
 use lib.IntN.{pos, negsuc}
-use Rattle.format.specs.declared.Manner.the-variants.{Strict, Saturating, Wrapping, Overflowing}
-use Rattle.format.specs.Meaning.{signed, unsigned, isWidth, faultOf, unless, lowest, highest, fits, hold, wrap, settle, done, refused}
+use Rattle.format.specs.declared.Manner.the-variants.{Strict, Wrapping, Overflowing}
+use Rattle.format.specs.Meaning.{signed, unsigned, isWidth, faultOf, unless, lowest, highest, fits, wrap, settle, done, refused}
 use Rattle.arith.specs.Meaning.{orElse, divisorFault}
 use Rattle.whole.specs.Meaning.{bySize}
 use Rattle.further.specs.Meaning.{quotEuclid, absOf, signumOf, remEuclidOf, divEuclidOf, mulAddOf, distOf, meanOf}

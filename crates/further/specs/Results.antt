@@ -1,14 +1,13 @@
 -- The operations on signs and magnitudes, as the code computes them. Assumes nothing.
 use mathlib.Core.Path.{_≡_, refl, sym, ap, _∙_}
 use mathlib.Core.Bool.{Bool, true, false, not, Bool·beq}
-use Prim.Native.Nat.{ℕ, zero, suc, _+_, _*_, _-_, _/_, _^_, _≤_, _<_, min}
+use Prim.Native.Nat.{ℕ, zero, suc, _+_, _*_, _-_, _^_, _≤_, _<_, min}
 use native.Mathlib.Omega.{arith}
 use native.Mathlib.Nat.{le-trans, lt-of-lt-of-le, div-le-self, mul-le-mul-left, mul-le-mul-right}
 use lib.IntN.{ℤ, pos, negsuc, negℤ, natAbs, _+ℤ_}
 use Rattle.laws.specs.Floor.{floor}
 use Rattle.format.specs.Meaning.{withSign}
-use Rattle.arith.specs.Signs.{negated, abs-sign, one-word, floor-below, sum-same, sum-apart, sum-turned}
-use Rattle.whole.specs.Units.{above-zero}
+use Rattle.arith.specs.Signs.{negated, abs-sign, one-word, sum-same, sum-apart, sum-turned}
 use Rattle.further.specs.Meaning.{quotEuclid}
 
 pub via₃ : (op : ℤ → ℤ → ℤ → ℤ) {x y z r a b c : ℤ} → x ≡ a → y ≡ b → z ≡ c → r ≡ op x y z → r ≡ op a b c

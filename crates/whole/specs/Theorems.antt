@@ -1,6 +1,6 @@
 -- What is proved of the meaning, without code: each rounding is what it is called, of z in units of m steps, and the two parts make the number.
 -- Assumes nothing.
-use mathlib.Core.Path.{_≡_, refl, sym, ap, _∙_}
+use mathlib.Core.Path.{_≡_, refl, ap}
 use mathlib.Core.Bool.{Bool, true, false, cond}
 use Prim.Native.Nat.{ℕ, zero, suc, _+_, _*_, _/_, _%_, _^_, _≤_, _<_}
 use native.Mathlib.Omega.{arith}
@@ -15,7 +15,7 @@ use Rattle.laws.specs.Floor.{floor, floor-out}
 use Rattle.laws.specs.Nearest.{Nearest, nearest, nearestEven}
 use Rattle.laws.specs.Order.{mul-out}
 use Rattle.laws.specs.Signed.{signed as kit}
-use Rattle.whole.specs.Meaning.{ceiling, nearestAway, bySize, floorTo, ceilTo, intPart, fracPart}
+use Rattle.whole.specs.Meaning.{nearestAway, bySize, floorTo, ceilTo, intPart, fracPart}
 
 -- ---- down and up: a whole number of units, not above z and less than a unit below it; and the same the other way
 pub floor-below : (z : ℤ) (m : ℕ) → 0 < m → (floorTo z m ≤ℤ z) × (z <ℤ (floorTo z m +ℤ pos m))

@@ -1,11 +1,11 @@
 -- The roundings on signs and magnitudes, as the code computes them: one law for each way out. Assumes nothing.
 use mathlib.Core.Path.{_≡_, refl, sym, ap, ap₂, _∙_}
-use mathlib.Core.Bool.{Bool, true, false, cond}
+use mathlib.Core.Bool.{Bool, true, false}
 use Prim.Native.Nat.{ℕ, zero, suc, _+_, _*_, _-_, _/_, _%_, _^_, _≤_, _<_}
 use native.Mathlib.Omega.{arith}
 use native.Mathlib.Nat.{lt-of-lt-of-le, one-mul, div-add-mod', div-le-self, div-eq-of-lt, mod-lt, mod-eq-of-lt, zero-div, zero-mod, le-mul-of-pos-right}
-use lib.Dec.{ltb, eqb}
-use lib.Pow.{pow-mono, pow-pos}
+use lib.Dec.{ltb}
+use lib.Pow.{pow-mono}
 use lib.IntN.{ℤ, pos, negsuc, negℤ, _-ℤ_, _*ℤ_}
 use borrow.Author.Tests.{eq-eqb, ne-eqb, lt-ltb, ltb-false}
 use Rattle.laws.specs.Diff.{sub-out}

@@ -3,7 +3,7 @@ ghost use mathlib.Core.Path.{_≡_};
 ghost use mathlib.Core.Bool.{true};
 ghost use Prim.Native.Nat.{_*_, _/_, _%_, _^_, _≤_, _<_};
 ghost use lib.Dec.{ltb};
-ghost use lib.IntN.{pos, _-ℤ_, _*ℤ_};
+ghost use lib.IntN.{pos, _-ℤ_};
 ghost use Rattle.laws.specs.Floor.{floor as floorIn};
 ghost use Rattle.laws.specs.Nearest.{nearestEven};
 ghost use Rattle.format.specs.Meaning.{withSign};
