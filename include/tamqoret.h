@@ -94,6 +94,39 @@ tq_unsigned tq_rem_unsigned(uint64_t a, uint64_t b, uint32_t width, uint32_t fra
 tq_signed tq_neg_signed(int64_t a, uint32_t width, uint32_t frac, uint32_t manner);
 tq_unsigned tq_neg_unsigned(uint64_t a, uint32_t width, uint32_t frac, uint32_t manner);
 
+/* Whole numbers of a format, in a manner: down, up, to the nearest with ties away from zero, to the nearest with ties to even. The integer part is the
+ * number rounded down, and 0 where frac is the width; the fraction is what the integer part leaves. */
+tq_signed tq_floor_signed(int64_t a, uint32_t width, uint32_t frac, uint32_t manner);
+tq_unsigned tq_floor_unsigned(uint64_t a, uint32_t width, uint32_t frac, uint32_t manner);
+tq_signed tq_ceil_signed(int64_t a, uint32_t width, uint32_t frac, uint32_t manner);
+tq_unsigned tq_ceil_unsigned(uint64_t a, uint32_t width, uint32_t frac, uint32_t manner);
+tq_signed tq_round_signed(int64_t a, uint32_t width, uint32_t frac, uint32_t manner);
+tq_unsigned tq_round_unsigned(uint64_t a, uint32_t width, uint32_t frac, uint32_t manner);
+tq_signed tq_round_ties_even_signed(int64_t a, uint32_t width, uint32_t frac, uint32_t manner);
+tq_unsigned tq_round_ties_even_unsigned(uint64_t a, uint32_t width, uint32_t frac, uint32_t manner);
+tq_signed tq_int_signed(int64_t a, uint32_t width, uint32_t frac, uint32_t manner);
+tq_unsigned tq_int_unsigned(uint64_t a, uint32_t width, uint32_t frac, uint32_t manner);
+tq_signed tq_frac_signed(int64_t a, uint32_t width, uint32_t frac, uint32_t manner);
+tq_unsigned tq_frac_unsigned(uint64_t a, uint32_t width, uint32_t frac, uint32_t manner);
+
+/* More arithmetic, in a manner. The sign is -1, 0 or 1, which is 2^frac steps. The Euclidean remainder is not negative and below |b|, the quotient that goes
+ * with it a whole number; TQ_ZERO_DIVISOR for a zero divisor. mul_add is a * b / 2^frac rounded toward minus infinity, plus c. The mean is rounded toward
+ * minus infinity. */
+tq_signed tq_abs_signed(int64_t a, uint32_t width, uint32_t frac, uint32_t manner);
+tq_unsigned tq_abs_unsigned(uint64_t a, uint32_t width, uint32_t frac, uint32_t manner);
+tq_signed tq_signum_signed(int64_t a, uint32_t width, uint32_t frac, uint32_t manner);
+tq_unsigned tq_signum_unsigned(uint64_t a, uint32_t width, uint32_t frac, uint32_t manner);
+tq_signed tq_rem_euclid_signed(int64_t a, int64_t b, uint32_t width, uint32_t frac, uint32_t manner);
+tq_unsigned tq_rem_euclid_unsigned(uint64_t a, uint64_t b, uint32_t width, uint32_t frac, uint32_t manner);
+tq_signed tq_div_euclid_signed(int64_t a, int64_t b, uint32_t width, uint32_t frac, uint32_t manner);
+tq_unsigned tq_div_euclid_unsigned(uint64_t a, uint64_t b, uint32_t width, uint32_t frac, uint32_t manner);
+tq_signed tq_mul_add_signed(int64_t a, int64_t b, int64_t c, uint32_t width, uint32_t frac, uint32_t manner);
+tq_unsigned tq_mul_add_unsigned(uint64_t a, uint64_t b, uint64_t c, uint32_t width, uint32_t frac, uint32_t manner);
+tq_signed tq_dist_signed(int64_t a, int64_t b, uint32_t width, uint32_t frac, uint32_t manner);
+tq_unsigned tq_dist_unsigned(uint64_t a, uint64_t b, uint32_t width, uint32_t frac, uint32_t manner);
+tq_signed tq_mean_signed(int64_t a, int64_t b, uint32_t width, uint32_t frac, uint32_t manner);
+tq_unsigned tq_mean_unsigned(uint64_t a, uint64_t b, uint32_t width, uint32_t frac, uint32_t manner);
+
 /* Shifts by the count modulo the width; bits that leave are lost. A count not below the width is TQ_OVERFLOW when strict, and sets the flag
  * when overflowing. There is no saturating shift: TQ_SATURATING is strict here. */
 tq_signed tq_shl_signed(int64_t a, uint32_t count, uint32_t width, uint32_t frac, uint32_t manner);

@@ -18,7 +18,7 @@ use Rattle.format.specs.Answer.{fault-unsigned, pass-unsigned}
 use Rattle.arith.specs.Meaning.{leBytes, fromBe, lowBits, littleOf, bigOf, orElse, roomFault, lengthFault, bufferOf}
 use Rattle.arith.specs.Bytes.{swapped-reversed}
 use Rattle.arith.specs.Promise.{Stored}
-use Rattle.arith.proofs.Signs.{one-word}
+use Rattle.arith.specs.Signs.{one-word}
 
 pub value-done : {a : UnsignedAnswer} {x : ℕ} {g : Bool} → a ≡ DoneU x g → x ≡ valueU a
 unfolding valueU

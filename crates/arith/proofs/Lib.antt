@@ -1,5 +1,2 @@
 -- What the proofs of more than one function use.
 mod Buffers
-mod Refusals
-mod Settled
-mod Signs

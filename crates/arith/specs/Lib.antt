@@ -4,5 +4,8 @@ pub mod Cases
 pub mod Exact
 pub mod Meaning
 pub mod Promise
+pub mod Refusals
+pub mod Settled
 pub mod Shift
+pub mod Signs
 pub mod Theorems

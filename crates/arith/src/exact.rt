@@ -191,7 +191,7 @@ fn floor_below(high: u64, low: u64, k: u32) -> Exact
 }
 
 // A word times 2^k. A whole word is left over for the shift, so nothing is lost.
-fn scaled(size: u64, k: u32) -> Wide
+pub fn scaled(size: u64, k: u32) -> Wide
     requires { ⌜ k ≤ 64 ⌝ }
     ensures { λ r. ⌜ valueOf r ≡ size * 2 ^ k ⌝ }
 {

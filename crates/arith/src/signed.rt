@@ -49,8 +49,8 @@ pub fn div(a: i64, b: i64, width: u32, frac: u32, manner: Manner) -> SignedAnswe
     let y = exact::of_signed(b);
     let fault = refusal::of_divisor(width, frac, y);
     if fault == 0 {
-        let x = exact::quotient(exact::of_signed(a), y, frac);
-        return format::signed::fit(x.neg, x.high, x.low, width, manner);
+        let q = exact::quotient(exact::of_signed(a), y, frac);
+        return format::signed::fit(q.neg, q.high, q.low, width, manner);
     }
     SignedAnswer::Refused(fault)
 }
@@ -75,8 +75,8 @@ pub fn shl(a: i64, count: u32, width: u32, frac: u32, manner: Manner) -> SignedA
     let fault = refusal::of_count(width, frac, count, manner);
     if fault == 0 {
         let x = exact::shifted_left(exact::of_signed(a), count % width);
-        let wrapped = format::signed::fit(x.neg, x.high, x.low, width, Manner::Wrapping);
-        return flagged(wrapped, refusal::flag(width, count, manner));
+        let shifted = format::signed::fit(x.neg, x.high, x.low, width, Manner::Wrapping);
+        return flagged(shifted, refusal::flag(width, count, manner));
     }
     SignedAnswer::Refused(fault)
 }

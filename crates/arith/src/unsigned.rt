@@ -49,8 +49,8 @@ pub fn div(a: u64, b: u64, width: u32, frac: u32, manner: Manner) -> UnsignedAns
     let y = exact::of_unsigned(b);
     let fault = refusal::of_divisor(width, frac, y);
     if fault == 0 {
-        let x = exact::quotient(exact::of_unsigned(a), y, frac);
-        return format::unsigned::fit(x.neg, x.high, x.low, width, manner);
+        let q = exact::quotient(exact::of_unsigned(a), y, frac);
+        return format::unsigned::fit(q.neg, q.high, q.low, width, manner);
     }
     UnsignedAnswer::Refused(fault)
 }
@@ -75,8 +75,8 @@ pub fn shl(a: u64, count: u32, width: u32, frac: u32, manner: Manner) -> Unsigne
     let fault = refusal::of_count(width, frac, count, manner);
     if fault == 0 {
         let x = exact::shifted_left(exact::of_unsigned(a), count % width);
-        let wrapped = format::unsigned::fit(x.neg, x.high, x.low, width, Manner::Wrapping);
-        return flagged(wrapped, refusal::flag(width, count, manner));
+        let shifted = format::unsigned::fit(x.neg, x.high, x.low, width, Manner::Wrapping);
+        return flagged(shifted, refusal::flag(width, count, manner));
     }
     UnsignedAnswer::Refused(fault)
 }

@@ -33,6 +33,22 @@ fn sums() {
         b"sub_unsigned: 0 - U16F16::MAX",
         arith::signed::sub(0, 4294967295, 32, 16, Manner::Wrapping),
     );
+    show::unsigned(
+        b"add_signed: 5 + -3",
+        arith::unsigned::sub(327680, 196608, 32, 16, Manner::Wrapping),
+    );
+    show::unsigned(
+        b"add_signed: 0 + -DELTA",
+        arith::unsigned::sub(0, 1, 32, 16, Manner::Wrapping),
+    );
+    show::unsigned(
+        b"sub_signed: 5 - -3",
+        arith::unsigned::add(327680, 196608, 32, 16, Manner::Wrapping),
+    );
+    show::unsigned(
+        b"sub_signed: 0 - DELTA",
+        arith::unsigned::sub(0, 1, 32, 16, Manner::Wrapping),
+    );
     show::signed(
         b"abs: -(-5)",
         arith::signed::neg(-327680, 32, 16, Manner::Wrapping),
@@ -51,6 +67,30 @@ fn products() {
     show::signed(
         b"mul_add: MAX * 4",
         arith::signed::mul(2147483647, 262144, 32, 16, Manner::Wrapping),
+    );
+    show::signed(
+        b"mul_acc: 4 * 0.5",
+        arith::signed::mul(262144, 32768, 32, 16, Manner::Wrapping),
+    );
+    show::signed(
+        b"mul_acc: 3 + 2",
+        arith::signed::add(196608, 131072, 32, 16, Manner::Wrapping),
+    );
+    show::signed(
+        b"ceil: 5 / 2",
+        arith::signed::div(327680, 131072, 32, 16, Manner::Wrapping),
+    );
+    show::signed(
+        b"rem_euclid: 7.5 % 2",
+        arith::signed::rem(491520, 131072, 32, 16, Manner::Wrapping),
+    );
+    show::signed(
+        b"div_euclid_int: MIN / -1",
+        arith::signed::div(-2147483648, -65536, 32, 16, Manner::Wrapping),
+    );
+    show::signed(
+        b"recip, I8F24: 1 / 512",
+        arith::signed::div(16777216, 8589934592, 32, 24, Manner::Wrapping),
     );
     show::signed(
         b"recip, I8F24: 1 / 0.25",
@@ -85,6 +125,10 @@ fn words() {
     show::signed(
         b"swap_bytes: 0x12345678",
         arith::signed::swap_bytes(0x1234_5678, 32, 16),
+    );
+    show::unsigned(
+        b"swap_bytes, unsigned: 0x12345678",
+        arith::unsigned::swap_bytes(0x1234_5678, 32, 16),
     );
     show::signed(
         b"from_be_bytes: 12 34 56 78",

@@ -1,5 +1,5 @@
 -- `arith::bytes::low_bits` meets its contract: wrapping leaves the low bits. Assumes nothing.
-use Rattle.arith.proofs.Signs.{one-word}
+use Rattle.arith.specs.Signs.{one-word}
 use Rattle.arith.proofs.Buffers.{low-of}
 use borrow.Author.Needs.{needs}
 use Rattle.arith.proofs.bytes.low_bits.Statement.{statement}

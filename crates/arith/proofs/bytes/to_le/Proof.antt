@@ -1,5 +1,5 @@
 -- `arith::bytes::to_le` meets its contract: the low bits, written; a refusal leaves the buffer as it was. Assumes nothing.
-use Rattle.arith.proofs.Refusals.{met}
+use Rattle.arith.specs.Refusals.{met}
 use Rattle.arith.proofs.Buffers.{room-none, stored-little, stored-refused}
 use borrow.Author.Needs.{needs}
 use Rattle.arith.proofs.bytes.to_le.Statement.{statement}

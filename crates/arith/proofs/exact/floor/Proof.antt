@@ -1,5 +1,5 @@
 -- `arith::exact::floor` meets its contract, by the sign. Assumes nothing.
-use Rattle.arith.proofs.Signs.{floor-above, floor-turned}
+use Rattle.arith.specs.Signs.{floor-above, floor-turned}
 use borrow.Author.Needs.{needs}
 use Rattle.arith.proofs.exact.floor.Statement.{statement}
 use Rattle.arith.proofs.exact.floor.Tie as tie

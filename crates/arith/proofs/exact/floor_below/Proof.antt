@@ -2,7 +2,7 @@
 use borrow.Author.Needs.{needs}
 use Prim.Native.Nat.{_+_, _*_, _^_}
 use mathlib.Core.Path.{refl}
-use Rattle.arith.proofs.Signs.{words-lt, none-below, some-below, floor-zero, floor-below, below-fits}
+use Rattle.arith.specs.Signs.{words-lt, none-below, some-below, floor-zero, floor-below, below-fits}
 use Rattle.arith.proofs.exact.floor_below.Statement.{statement}
 use Rattle.arith.proofs.exact.floor_below.Tie as tie
 

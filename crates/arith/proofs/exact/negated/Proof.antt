@@ -1,5 +1,5 @@
 -- `arith::exact::negated` meets its contract: the other sign. Assumes nothing.
-use Rattle.arith.proofs.Signs.{negated}
+use Rattle.arith.specs.Signs.{negated}
 use Rattle.arith.proofs.exact.negated.Statement.{statement}
 use Rattle.arith.proofs.exact.negated.Tie as tie
 

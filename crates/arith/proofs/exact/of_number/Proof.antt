@@ -1,5 +1,5 @@
 -- `arith::exact::of_number` meets its contract: the high word is 0. Assumes nothing.
-use Rattle.arith.proofs.Signs.{one-word}
+use Rattle.arith.specs.Signs.{one-word}
 use Rattle.arith.proofs.exact.of_number.Statement.{statement}
 use Rattle.arith.proofs.exact.of_number.Tie as tie
 

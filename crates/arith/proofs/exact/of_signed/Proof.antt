@@ -1,7 +1,7 @@
 -- `arith::exact::of_signed` meets its contract: the sign and the magnitude make the number. Assumes nothing.
 use mir.Syntax.{w64}
 use mir.Facts.{toZ-ofZ}
-use Rattle.arith.proofs.Signs.{apart}
+use Rattle.arith.specs.Signs.{apart}
 use borrow.Author.Needs.{needs}
 use Rattle.arith.proofs.exact.of_signed.Statement.{statement}
 use Rattle.arith.proofs.exact.of_signed.Tie as tie

@@ -5,7 +5,7 @@ use Prim.Native.Nat.{_^_}
 use lib.IntN.{ℤ}
 use Rattle.laws.specs.Floor.{floor}
 use Rattle.format.specs.Meaning.{withSign}
-use Rattle.arith.proofs.Signs.{product-sign}
+use Rattle.arith.specs.Signs.{product-sign}
 use borrow.Author.Needs.{needs}
 use Rattle.arith.proofs.exact.product.Statement.{statement}
 use Rattle.arith.proofs.exact.product.Tie as tie

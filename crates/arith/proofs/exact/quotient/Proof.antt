@@ -5,7 +5,7 @@ use Prim.Native.Nat.{ℕ, _^_, _*_, _/_}
 use lib.IntN.{ℤ}
 use lib.Signed.{quotZ}
 use Rattle.format.specs.Meaning.{withSign}
-use Rattle.arith.proofs.Signs.{quotient-sign, scaled-sign}
+use Rattle.arith.specs.Signs.{quotient-sign, scaled-sign}
 use borrow.Author.Needs.{needs}
 use Rattle.arith.proofs.exact.quotient.Statement.{statement}
 use Rattle.arith.proofs.exact.quotient.Tie as tie

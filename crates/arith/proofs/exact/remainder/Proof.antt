@@ -1,6 +1,6 @@
 -- `arith::exact::remainder` meets its contract: the remainder of the magnitudes, with the sign of x. Assumes nothing.
 use native.Mathlib.Omega.{arith}
-use Rattle.arith.proofs.Signs.{remainder-sign}
+use Rattle.arith.specs.Signs.{remainder-sign}
 use borrow.Author.Needs.{needs}
 use Rattle.arith.proofs.exact.remainder.Statement.{statement}
 use Rattle.arith.proofs.exact.remainder.Tie as tie

@@ -1,5 +1,5 @@
 -- `arith::exact::scaled` meets its contract: the product is below 2^128. Assumes nothing.
-use Rattle.arith.proofs.Signs.{scaled-words}
+use Rattle.arith.specs.Signs.{scaled-words}
 use borrow.Author.Needs.{needs}
 use Rattle.arith.proofs.exact.scaled.Statement.{statement}
 use Rattle.arith.proofs.exact.scaled.Tie as tie

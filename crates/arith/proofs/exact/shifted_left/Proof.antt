@@ -2,7 +2,7 @@
 use mathlib.Core.Path.{_∙_, ap}
 use Prim.Native.Nat.{_^_}
 use Rattle.format.specs.Meaning.{withSign}
-use Rattle.arith.proofs.Signs.{scaled-sign}
+use Rattle.arith.specs.Signs.{scaled-sign}
 use borrow.Author.Needs.{needs}
 use Rattle.arith.proofs.exact.shifted_left.Statement.{statement}
 use Rattle.arith.proofs.exact.shifted_left.Tie as tie

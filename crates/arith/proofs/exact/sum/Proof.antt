@@ -1,6 +1,6 @@
 -- `arith::exact::sum` meets its contract, by equal and unequal signs (`Signs`). Assumes nothing.
 use native.Mathlib.Omega.{arith}
-use Rattle.arith.proofs.Signs.{two-words, sum-same, sum-apart, sum-turned}
+use Rattle.arith.specs.Signs.{two-words, sum-same, sum-apart, sum-turned}
 use borrow.Author.Needs.{needs}
 use Rattle.arith.proofs.exact.sum.Statement.{statement}
 use Rattle.arith.proofs.exact.sum.Tie as tie

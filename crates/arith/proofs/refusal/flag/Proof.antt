@@ -1,5 +1,5 @@
 -- `arith::refusal::flag` meets its contract, by the manner. Assumes nothing.
-use Rattle.arith.proofs.Refusals.{flag-strict, flag-saturating, flag-wrapping, flag-overflowing}
+use Rattle.arith.specs.Refusals.{flag-strict, flag-saturating, flag-wrapping, flag-overflowing}
 use borrow.Author.Needs.{needs}
 use Rattle.arith.proofs.refusal.flag.Statement.{statement}
 use Rattle.arith.proofs.refusal.flag.Tie as tie

@@ -1,5 +1,5 @@
 -- `arith::refusal::of_count` meets its contract: the format first, then the count. Assumes nothing.
-use Rattle.arith.proofs.Refusals.{or-first, or-second, count-in, count-past}
+use Rattle.arith.specs.Refusals.{or-first, or-second, count-in, count-past}
 use borrow.Author.Needs.{needs}
 use Rattle.arith.proofs.refusal.of_count.Statement.{statement}
 use Rattle.arith.proofs.refusal.of_count.Tie as tie

@@ -1,7 +1,7 @@
 -- `arith::refusal::of_divisor` meets its contract: the format first, then the divisor. Assumes nothing.
 use mathlib.Core.Path.{_∙_, sym}
-use Rattle.arith.proofs.Refusals.{or-first, or-second, divisor-zero, divisor-some}
-use Rattle.arith.proofs.Signs.{abs-sign}
+use Rattle.arith.specs.Refusals.{or-first, or-second, divisor-zero, divisor-some}
+use Rattle.arith.specs.Signs.{abs-sign}
 use borrow.Author.Needs.{needs}
 use Rattle.arith.proofs.refusal.of_divisor.Statement.{statement}
 use Rattle.arith.proofs.refusal.of_divisor.Tie as tie

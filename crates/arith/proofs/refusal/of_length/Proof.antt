@@ -1,5 +1,5 @@
 -- `arith::refusal::of_length` meets its contract: the format first, then the number of bytes. Assumes nothing.
-use Rattle.arith.proofs.Refusals.{or-first, or-second}
+use Rattle.arith.specs.Refusals.{or-first, or-second}
 use Rattle.arith.proofs.Buffers.{length-is, length-not}
 use borrow.Author.Needs.{needs}
 use Rattle.arith.proofs.refusal.of_length.Statement.{statement}

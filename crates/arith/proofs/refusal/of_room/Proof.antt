@@ -1,5 +1,5 @@
 -- `arith::refusal::of_room` meets its contract: the format first, then the places. Assumes nothing.
-use Rattle.arith.proofs.Refusals.{or-first, or-second}
+use Rattle.arith.specs.Refusals.{or-first, or-second}
 use Rattle.arith.proofs.Buffers.{room-in, room-past}
 use borrow.Author.Needs.{needs}
 use Rattle.arith.proofs.refusal.of_room.Statement.{statement}

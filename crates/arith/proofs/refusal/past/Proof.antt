@@ -1,5 +1,5 @@
 -- `arith::refusal::past` meets its contract, by the manner. Assumes nothing.
-use Rattle.arith.proofs.Refusals.{past-strict, past-saturating, past-wrapping, past-overflowing}
+use Rattle.arith.specs.Refusals.{past-strict, past-saturating, past-wrapping, past-overflowing}
 use borrow.Author.Needs.{needs}
 use Rattle.arith.proofs.refusal.past.Statement.{statement}
 use Rattle.arith.proofs.refusal.past.Tie as tie

@@ -1,7 +1,7 @@
 -- `arith::signed::flagged` meets its contract: each case is copied. Assumes nothing.
 use mir.Syntax.{w64}
 use Rattle.laws.specs.Signed.{ok-back}
-use Rattle.arith.proofs.Settled.{flagged-signed, kept-signed}
+use Rattle.arith.specs.Settled.{flagged-signed, kept-signed}
 use borrow.Author.Needs.{needs}
 use Rattle.arith.proofs.signed.flagged.Statement.{statement}
 use Rattle.arith.proofs.signed.flagged.Tie as tie

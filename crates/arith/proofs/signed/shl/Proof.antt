@@ -7,9 +7,9 @@ use native.Mathlib.Nat.{mod-lt}
 use Prim.Native.Nat.{_^_, _%_}
 use lib.IntN.{ℤ, pos, _*ℤ_}
 use Rattle.format.specs.Answer.{fault-signed}
-use Rattle.arith.proofs.Refusals.{met}
-use Rattle.arith.proofs.Signs.{via}
-use Rattle.arith.proofs.Settled.{shifted-signed}
+use Rattle.arith.specs.Refusals.{met}
+use Rattle.arith.specs.Signs.{via}
+use Rattle.arith.specs.Settled.{shifted-signed}
 use borrow.Author.Needs.{needs}
 use Rattle.arith.proofs.signed.shl.Statement.{statement}
 use Rattle.arith.proofs.signed.shl.Tie as tie

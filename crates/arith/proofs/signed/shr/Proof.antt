@@ -6,9 +6,9 @@ use Prim.Native.Nat.{_^_, _%_}
 use lib.IntN.{ℤ}
 use Rattle.laws.specs.Floor.{floor}
 use Rattle.format.specs.Answer.{fault-signed}
-use Rattle.arith.proofs.Refusals.{met}
-use Rattle.arith.proofs.Signs.{via, one-word}
-use Rattle.arith.proofs.Settled.{shifted-signed}
+use Rattle.arith.specs.Refusals.{met}
+use Rattle.arith.specs.Signs.{via, one-word}
+use Rattle.arith.specs.Settled.{shifted-signed}
 use borrow.Author.Needs.{needs}
 use Rattle.arith.proofs.signed.shr.Statement.{statement}
 use Rattle.arith.proofs.signed.shr.Tie as tie

@@ -1,5 +1,5 @@
 -- `arith::unsigned::flagged` meets its contract: each case is copied. Assumes nothing.
-use Rattle.arith.proofs.Settled.{flagged-unsigned, kept-unsigned}
+use Rattle.arith.specs.Settled.{flagged-unsigned, kept-unsigned}
 use borrow.Author.Needs.{needs}
 use Rattle.arith.proofs.unsigned.flagged.Statement.{statement}
 use Rattle.arith.proofs.unsigned.flagged.Tie as tie

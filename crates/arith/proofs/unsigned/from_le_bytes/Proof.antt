@@ -1,6 +1,6 @@
 -- `arith::unsigned::from_le_bytes` meets its promise: W / 8 bytes, read and wrapped. Assumes nothing.
 use Rattle.format.specs.Answer.{fault-unsigned, pass-unsigned}
-use Rattle.arith.proofs.Refusals.{met}
+use Rattle.arith.specs.Refusals.{met}
 use Rattle.arith.proofs.Buffers.{length-none, plain, wrapped-unsigned}
 use borrow.Author.Needs.{needs}
 use Rattle.arith.proofs.unsigned.from_le_bytes.Statement.{statement}

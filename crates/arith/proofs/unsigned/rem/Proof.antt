@@ -2,9 +2,9 @@
 use lib.IntN.{ℤ}
 use lib.Signed.{remZ}
 use Rattle.format.specs.Answer.{fault-unsigned, pass-unsigned}
-use Rattle.arith.proofs.Refusals.{met, divisor-none, at-divisor}
-use Rattle.arith.proofs.Signs.{via₂, some-size}
-use Rattle.arith.proofs.Settled.{fitted-unsigned}
+use Rattle.arith.specs.Refusals.{met, divisor-none, at-divisor}
+use Rattle.arith.specs.Signs.{via₂, some-size}
+use Rattle.arith.specs.Settled.{fitted-unsigned}
 use borrow.Author.Needs.{needs}
 use Rattle.arith.proofs.unsigned.rem.Statement.{statement}
 use Rattle.arith.proofs.unsigned.rem.Tie as tie

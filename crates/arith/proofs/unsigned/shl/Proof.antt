@@ -4,9 +4,9 @@ use native.Mathlib.Nat.{mod-lt}
 use Prim.Native.Nat.{_^_, _%_}
 use lib.IntN.{ℤ, pos, _*ℤ_}
 use Rattle.format.specs.Answer.{fault-unsigned}
-use Rattle.arith.proofs.Refusals.{met}
-use Rattle.arith.proofs.Signs.{via}
-use Rattle.arith.proofs.Settled.{shifted-unsigned}
+use Rattle.arith.specs.Refusals.{met}
+use Rattle.arith.specs.Signs.{via}
+use Rattle.arith.specs.Settled.{shifted-unsigned}
 use borrow.Author.Needs.{needs}
 use Rattle.arith.proofs.unsigned.shl.Statement.{statement}
 use Rattle.arith.proofs.unsigned.shl.Tie as tie

@@ -4,9 +4,9 @@ use lib.IntN.{ℤ}
 use Rattle.laws.specs.Floor.{floor}
 use mathlib.Core.Path.{_∙_}
 use Rattle.format.specs.Answer.{fault-unsigned}
-use Rattle.arith.proofs.Refusals.{met}
-use Rattle.arith.proofs.Signs.{via, one-word}
-use Rattle.arith.proofs.Settled.{shifted-unsigned}
+use Rattle.arith.specs.Refusals.{met}
+use Rattle.arith.specs.Signs.{via, one-word}
+use Rattle.arith.specs.Settled.{shifted-unsigned}
 use borrow.Author.Needs.{needs}
 use Rattle.arith.proofs.unsigned.shr.Statement.{statement}
 use Rattle.arith.proofs.unsigned.shr.Tie as tie

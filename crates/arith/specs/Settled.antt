@@ -30,6 +30,14 @@ module _ (w : ℕ) (k : Manner) {x y : ℤ} (e : x ≡ y) where
   pub fitted-unsigned : {r : UnsignedAnswer} → r ≡ unsignedAnswer (settle k unsigned w x) → r ≡ unsignedAnswer (settle k unsigned w y)
   fitted-unsigned p = p ∙ ap (λ (z : ℤ). unsignedAnswer (settle k unsigned w z)) e
 
+-- an operation on one operand, whose only refusals are the format's: a is asked, the code reads b and computes x
+module _ (op : ℤ → ℤ) (w f : ℕ) (k : Manner) {fault : ℕ} {a b x : ℤ} (d : fault ≡ faultOf w f) (z : fault ≡ 0) (p : b ≡ a) (q : x ≡ op b) where
+  pub one-signed : {r : SignedAnswer} → r ≡ signedAnswer (settle k signed w x) → r ≡ signedAnswer (unless (faultOf w f) (settle k signed w (op a)))
+  one-signed s = pass-signed (faultOf w f) (settle k signed w (op a)) d z (fitted-signed w k (q ∙ ap op p) s)
+
+  pub one-unsigned : {r : UnsignedAnswer} → r ≡ unsignedAnswer (settle k unsigned w x) → r ≡ unsignedAnswer (unless (faultOf w f) (settle k unsigned w (op a)))
+  one-unsigned s = pass-unsigned (faultOf w f) (settle k unsigned w (op a)) d z (fitted-unsigned w k (q ∙ ap op p) s)
+
 -- an answer with another flag, and a shift: wrapped, with the flag of its count
 module _ {f g : Bool} where
   pub flagged-signed : {a : SignedAnswer} {x y : ℤ} → a ≡ DoneS x g → y ≡ x → DoneS y f ≡ flaggedS a f

@@ -30,11 +30,16 @@ or-none n m h = go (eqb n 0) refl h
     go true e h = (eqb-true n 0 e, h)
     go false e h = absurd (omega (arith, eqb-false n 0 e))
 
+or-none-first : (n : ℕ) {r : ℕ} → r ≡ n → r ≡ 0 → r ≡ orElse n 0
+unfolding orElse
+or-none-first n e z = rw (sym e ∙ z) z
+
 -- what no refusal tells of the format, and of the second
 pub record Met (w f m : ℕ) : Type 0 where
   pub width : isWidth w ≡ true
   pub some : 0 < w
   pub word : w ≤ 64
+  pub within : f ≤ w
   pub frac : f ≤ 64
   pub rest : m ≡ 0
 
@@ -43,7 +48,11 @@ met w f m e z =
     let both = or-none (faultOf w f) m (sym e ∙ z) in
     let free = fault-free w f (both .0) in
     let bounds = width-bounds w (free .0) in
-    record { width = free .0; some = omega arith; word = bounds .1; frac = omega arith; rest = both .1 }
+    record { width = free .0; some = omega arith; word = bounds .1; within = free .1; frac = omega arith; rest = both .1 }
+
+-- the same where the format is all that is asked
+pub checked : (w f : ℕ) {r : ℕ} → r ≡ faultOf w f → r ≡ 0 → Met w f 0
+checked w f e z = met w f 0 (or-none-first (faultOf w f) e z) z
 
 -- the divisor
 pub divisor-zero : (b : ℤ) → natAbs b ≡ 0 → 31 ≡ divisorFault b

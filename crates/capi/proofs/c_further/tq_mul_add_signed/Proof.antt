@@ -1,0 +1,25 @@
+-- `capi::c_further::tq_mul_add_signed` meets its contract: the manner's number stands for the manner, and an operand is read back from its bits. Assumes nothing.
+use mir.Syntax.{w64}
+use mir.Facts.{toZ-ofZ}
+use borrow.Author.Needs.{needs}
+use Rattle.capi.proofs.c_further.tq_mul_add_signed.Statement.{statement}
+use Rattle.capi.proofs.c_further.tq_mul_add_signed.Tie as tie
+
+manner-requires : tie.Need-manner-requires
+manner-requires c κs = search needs
+
+mul-add-requires : tie.Need-mul-add-requires
+mul-add-requires c κs = search needs
+
+signed-requires : tie.Need-signed-requires
+signed-requires c κs = search needs
+
+returns : tie.Need-returns
+returns c =
+    let same-a = toZ-ofZ {w = w64} (c .before .before .before .fits .a) in
+    let same-b = toZ-ofZ {w = w64} (c .before .before .before .fits .b) in
+    let same-c = toZ-ofZ {w = w64} (c .before .before .before .fits .c) in
+    record { answer = c .before .mul-add .result; copied = c .signed .ensures; meets = cc }
+
+pub tq-mul-add-signed-spec : {M : Type 1} → statement M
+tq-mul-add-signed-spec = tie.close (tie.spec manner-requires mul-add-requires signed-requires returns)

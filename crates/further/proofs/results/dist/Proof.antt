@@ -1,0 +1,24 @@
+-- `further::results::dist` meets its contract: the magnitude of the difference. Assumes nothing.
+use mathlib.Core.Path.{_∙_, ap}
+use Prim.Native.Nat.{_+_, _*_, _^_}
+use lib.IntN.{ℤ, _+ℤ_}
+use Rattle.arith.specs.Exact.{numberOf}
+use Rattle.further.specs.Results.{size-of}
+use borrow.Author.Needs.{needs}
+use Rattle.further.proofs.results.dist.Statement.{statement}
+use Rattle.further.proofs.results.dist.Tie as tie
+
+negated-requires : tie.Need-negated-requires
+negated-requires c κs = search needs
+
+sum-requires : tie.Need-sum-requires
+sum-requires c κs = search needs
+
+returns : tie.Need-returns
+returns c =
+    let a = c .before .before .args in
+    let d = c .sum .result in
+    size-of (d .neg) (d .high * 2 ^ 64 + d .low) (c .sum .ensures ∙ ap (λ (z : ℤ). numberOf (a .x) +ℤ z) (c .before .negated .ensures))
+
+pub dist-spec : {M : Type 1} → statement M
+dist-spec = tie.close (tie.spec negated-requires sum-requires returns)
