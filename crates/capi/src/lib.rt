@@ -3,6 +3,7 @@ mod answer;
 pub mod c_arith;
 pub mod c_bytes;
 pub mod c_filter;
+pub mod c_fitting;
 pub mod c_log10;
 pub mod c_read;
 pub mod c_settle;

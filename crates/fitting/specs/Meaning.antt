@@ -98,3 +98,24 @@ roomFault values lines raws answers taps =
 unfoldable pub fileFault : ℕ → ℕ → ℕ → ℕ → ℕ → ℕ → ℕ
 fileFault bytes values lines raws answers taps =
     cond (leb bytes fileLimit) (cond (leb values mostTaps) (roomFault values lines raws answers taps) 41) 4
+
+-- ---- Number, values, line and inner answer of an answer: 42 for a refused line; 0 where a refusal has none.
+unfoldable pub numberF : FileAnswer → ℕ
+numberF (Done n) = 0
+numberF (Refused n) = n
+numberF (Line line inner) = 42
+
+unfoldable pub valuesF : FileAnswer → ℕ
+valuesF (Done n) = n
+valuesF (Refused n) = 0
+valuesF (Line line inner) = 0
+
+unfoldable pub lineF : FileAnswer → ℕ
+lineF (Done n) = 0
+lineF (Refused n) = 0
+lineF (Line line inner) = line
+
+unfoldable pub innerF : FileAnswer → ℕ
+innerF (Done n) = 0
+innerF (Refused n) = 0
+innerF (Line line inner) = inner
