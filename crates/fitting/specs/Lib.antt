@@ -1,3 +1,4 @@
+pub mod Cases
 pub mod Held
 pub mod Judge
 pub mod Lines
@@ -7,3 +8,4 @@ pub mod Promise
 pub mod Read
 pub mod Room
 pub mod Store
+pub mod Theorems
