@@ -40,7 +40,7 @@ enum {
     TQ_WRONG_WIDTH = 1,    /* the width is not 8, 16, 32 or 64 */
     TQ_WRONG_FRAC = 2,     /* more fraction bits than the width */
     TQ_WRONG_RADIX = 3,    /* the radix is not 2, 8, 10 or 16 */
-    TQ_TOO_LONG = 4,       /* a text above 4096 bytes */
+    TQ_TOO_LONG = 4,       /* a text above 4096 bytes, a fitting file above 16384 */
     TQ_WRONG_LENGTH = 5,   /* a buffer too small, or lists of unequal length */
     TQ_OVERFLOW = 10,      /* the result does not fit; strict manner only */
     TQ_NO_DIGITS = 11,     /* no digit before the exponent's mark */
@@ -55,7 +55,9 @@ enum {
     TQ_NOT_A_NUMBER = 30,  /* NaN, or an infinity outside the saturating manner */
     TQ_ZERO_DIVISOR = 31,
     TQ_NOT_POSITIVE = 32,  /* logarithm of zero or of a negative number */
-    TQ_WRONG_TAPS = 40     /* taps not 1 to 64 */
+    TQ_WRONG_TAPS = 40,    /* taps not 1 to 64; a fitting file without a value */
+    TQ_TOO_MANY_VALUES = 41, /* a fitting file with more than 64 values */
+    TQ_REFUSED_LINE = 42   /* a line of a fitting file is refused */
 };
 
 /* An exact whole number of steps into a format: the magnitude is high * 2^64 + low, negative unless neg is 0. */
@@ -181,6 +183,21 @@ tq_unsigned tq_filter(const int16_t *taps, size_t n, tq_state *state, const int1
 /* Whether the taps can ever clip, whatever the samples. Value 0: never. 1: some samples clip high. 2: none clip high, some clip low.
  * With 1 and 2 witness, of exactly n places, holds samples that do, newest first; with 0 and with a refusal it is unchanged. */
 tq_unsigned tq_headroom(const int16_t *taps, size_t n, int16_t *witness, size_t m);
+
+typedef struct {
+    uint32_t number; /* 0: done; else the refusal */
+    uint32_t line;   /* with TQ_REFUSED_LINE the number, from 1, of the first refused line; else 0 */
+    uint32_t inner;  /* and that line's own refusal; else 0 */
+    uint32_t values; /* the value lines of the file; 0 with every refusal */
+} tq_file;
+
+/* A fitting file: lines ended by LF, the last may lack it; empty lines and lines that start with # are skipped; each other line is one
+ * literal, a signed raw of 16 bits with 15 fraction bits, strict. lines, raws and answers, of one length, are a list with an entry for each
+ * such line: its number, its raw (0 where refused) and its answer (0 where not). When done the first taps hold the raws. With
+ * TQ_REFUSED_LINE the list holds every value line, and the taps are unchanged; with any other refusal nothing lent is changed. Entries and
+ * taps past the last value stay as they were. */
+tq_file tq_fitting(const uint8_t *file, size_t len, uint32_t *lines, size_t lines_len, int16_t *raws, size_t raws_len, uint32_t *answers,
+                   size_t answers_len, int16_t *taps, size_t taps_len);
 
 #ifdef __cplusplus
 }

@@ -4,6 +4,7 @@ pub mod c_arith;
 pub mod c_bytes;
 pub mod c_convert;
 pub mod c_filter;
+pub mod c_fitting;
 pub mod c_from_float;
 pub mod c_further;
 pub mod c_log10;

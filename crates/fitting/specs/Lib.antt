@@ -1,0 +1,11 @@
+pub mod Cases
+pub mod Held
+pub mod Judge
+pub mod Lines
+pub mod Literal
+pub mod Meaning
+pub mod Promise
+pub mod Read
+pub mod Room
+pub mod Store
+pub mod Theorems
