@@ -6,11 +6,11 @@ use crate::common::{Answer, Random};
 
 pub const WIDTHS: [u32; 4] = [8, 16, 32, 64];
 
-/// The four manners, and two numbers that stand for strict as every other does.
-pub const MANNERS: [u32; 6] = [0, 1, 2, 3, 4, u32::MAX];
+/// The four manners, and numbers that stand for strict as every other does, some with the low byte of another manner.
+pub const MANNERS: [u32; 9] = [0, 1, 2, 3, 4, 0x101, 0x102, 0x1_0003, u32::MAX];
 
-/// Widths and fraction bits of which one is wrong at least.
-pub const NO_FORMATS: [(u32, u32); 12] = [
+/// Widths and fraction bits of which one is wrong at least; some would be right in their low bytes.
+pub const NO_FORMATS: [(u32, u32); 20] = [
     (0, 0),
     (1, 1),
     (7, 0),
@@ -19,10 +19,18 @@ pub const NO_FORMATS: [(u32, u32); 12] = [
     (63, 1),
     (65, 66),
     (128, 0),
+    (256, 4),
+    (0x108, 4),
+    (0x1_0010, 4),
+    (0x8000_0040, 4),
     (u32::MAX, u32::MAX),
     (8, 9),
-    (64, 65),
+    (8, 0x104),
     (16, u32::MAX),
+    (32, 0x1_0010),
+    (64, 65),
+    (64, 0x8000_0004),
+    (64, 0x100),
 ];
 
 #[derive(Clone, Copy, Debug)]

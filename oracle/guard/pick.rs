@@ -46,14 +46,14 @@ impl Pools {
 
 fn width(random: &mut Random) -> u32 {
     match random.below(16) {
-        0 => random.pick(&[0, 1, 7, 9, 15, 24, 63, 65, 128, 256, 1 << 31, u32::MAX]),
+        0 => random.pick(&[0, 1, 7, 9, 24, 63, 65, 128, 256, 0x108, 0x1_0010, 0x8000_0040, 1 << 31, u32::MAX]),
         _ => random.pick(&[8, 16, 32, 64]),
     }
 }
 
 fn frac(random: &mut Random, width: u32) -> u32 {
     match random.below(16) {
-        0 => random.pick(&[width.wrapping_add(1), 65, 128, 1 << 31, u32::MAX]),
+        0 => random.pick(&[width.wrapping_add(1), 65, 128, 0x100, 0x104, 0x1_0008, 0x8000_0004, u32::MAX]),
         1 => random.pick(&[0, width]),
         _ => random.below(width.min(64) as usize + 1) as u32,
     }
@@ -82,12 +82,12 @@ pub fn numbers(random: &mut Random) -> Args {
         to_width,
         to_frac: frac(random, to_width),
         radix: if random.one_in(16) {
-            random.pick(&[0, 1, 3, 9, 36, u32::MAX])
+            random.pick(&[0, 1, 3, 9, 36, 0x10a, 0x1_0010, u32::MAX])
         } else {
             random.pick(&[2, 8, 10, 10, 16])
         },
-        manner: random.pick(&[0, 0, 1, 2, 3, 3, 4, u32::MAX]),
-        count: random.pick(&[0, 1, 7, 8, 31, 63, 64, 65, u32::MAX]),
+        manner: random.pick(&[0, 0, 1, 2, 3, 3, 4, 0x103, u32::MAX]),
+        count: random.pick(&[0, 1, 7, 8, 31, 63, 64, 65, 0x101, u32::MAX]),
         ..Args::NONE
     }
 }
