@@ -17,6 +17,7 @@ mod table;
 use check::{ARGS, Bench, CALLS, NAME};
 use common::{Random, Tally};
 use std::sync::atomic::Ordering::Relaxed;
+use table::Function;
 
 unsafe extern "C" {
     fn signal(number: i32, handler: extern "C" fn(i32)) -> usize;
@@ -31,6 +32,17 @@ extern "C" fn stopped(number: i32) {
     }
     println!("{} passed, 1 failed", CALLS.load(Relaxed));
     unsafe { _exit(1) }
+}
+
+/// A function of the header that is not in the table is called by nobody here.
+fn header(t: &mut Tally, functions: &[Function]) {
+    let text = include_str!("../../include/tamqoret.h");
+    let words = text.split(|c: char| !c.is_ascii_alphanumeric() && c != '_' && c != '(');
+    for (name, _) in words.filter_map(|word| word.split_once('(')).filter(|(name, _)| name.starts_with("tq_")) {
+        t.see(functions.iter().any(|f| f.name == name), || {
+            format!("{name} is in the header and not in the table, or not in the archive")
+        });
+    }
 }
 
 fn main() {
@@ -55,6 +67,7 @@ fn main() {
         println!("{:34} {:9} calls, {done:9} done, {refused:9} refused", f.name, done + refused);
         t.see(done > 0 && refused > 0, || format!("{} was never done or never refused", f.name));
     }
+    header(&mut t, &functions);
     println!("{} functions, {} calls", functions.len(), CALLS.load(Relaxed));
     t.close()
 }
