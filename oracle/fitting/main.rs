@@ -29,7 +29,7 @@ unsafe extern "C" {
 }
 
 /// Sentinels on either side of a lent buffer.
-const MARGIN: usize = 4;
+const MARGIN: usize = 2;
 
 fn fill(random: &mut Random, places: Places) -> Buffers {
     let mut some = |n: usize| (0..n + 2 * MARGIN).map(|_| random.next() as u32).collect::<Vec<u32>>();
@@ -42,22 +42,27 @@ fn inner<T: Clone>(list: &[T]) -> Vec<T> {
     list[MARGIN..list.len() - MARGIN].to_vec()
 }
 
-/// What the archive answers; the buffers are with their sentinels.
+/// What the archive answers; the buffers are with their sentinels. The taps lie closely after the raws, whose values they are.
 fn found(file: &[u8], places: Places, b: &mut Buffers) -> File {
-    unsafe {
+    let mut near = [&b.raws[..], &b.taps[..]].concat();
+    let (raws, taps) = near.split_at_mut(b.raws.len());
+    let answer = unsafe {
         tq_fitting(
             file.as_ptr(),
             file.len(),
             b.lines.as_mut_ptr().add(MARGIN),
             places.lines,
-            b.raws.as_mut_ptr().add(MARGIN),
+            raws.as_mut_ptr().add(MARGIN),
             places.raws,
             b.answers.as_mut_ptr().add(MARGIN),
             places.answers,
-            b.taps.as_mut_ptr().add(MARGIN),
+            taps.as_mut_ptr().add(MARGIN),
             places.taps,
         )
-    }
+    };
+    b.raws.copy_from_slice(raws);
+    b.taps.copy_from_slice(taps);
+    answer
 }
 
 /// What the document says; the buffers are with their sentinels.
