@@ -1,5 +1,5 @@
 #!/bin/sh
-# oracle/float.sh [ARCHIVES [long]]: builds oracle/float/main.rs against libcapi.a of ARCHIVES (target/staticlib if not given:
+# oracle/float.sh [ARCHIVES [SWEEPS]]: builds oracle/float/main.rs against libcapi.a of ARCHIVES (target/staticlib if not given:
 # `rt staticlib capi`), and runs it. Its last line is 'N passed, M failed'.
 set -eu
 here=$(cd "$(dirname "$0")" && pwd)

@@ -1,7 +1,9 @@
 //! Holds the archive's conversions from and to f32 and f64 patterns against the machine's own floats (machine.rs) and against an exact model over
 //! integers (exact.rs), which must agree with each other too. Built and run by oracle/float.sh.
 //!
-//!     float [long]
+//!     float [SWEEPS]
+//!
+//! A sweep takes every f32 with one exponent into a format; there are 13 of them, and the first three are done if no number is given.
 
 #[path = "../common.rs"]
 mod common;
@@ -141,18 +143,16 @@ fn sweep(t: &mut Tally, f: Format, e: i64) {
     }
 }
 
-/// The short run takes the first three.
-fn sweeps(t: &mut Tally, long: bool) {
+/// Formats and exponents to sweep, the most telling first.
+fn sweeps() -> Vec<(Format, i64)> {
     let format = |signed, width, frac| Format { signed, width, frac };
     let mut all = vec![(format(true, 8, 4), 3), (format(true, 16, 15), -1), (format(false, 16, 16), -17)];
-    if long {
-        all.extend([-5, 2].map(|e| (format(true, 8, 4), e)));
-        all.extend([-1, 7].map(|e| (format(false, 8, 0), e)));
-        all.extend([-16, 0].map(|e| (format(true, 16, 15), e)));
-        all.extend([14, 15].map(|e| (format(true, 16, 0), e)));
-        all.extend([(format(false, 8, 8), -1), (format(false, 16, 16), -1)]);
-    }
-    all.into_iter().for_each(|(f, e)| sweep(t, f, e));
+    all.extend([-5, 2].map(|e| (format(true, 8, 4), e)));
+    all.extend([-1, 7].map(|e| (format(false, 8, 0), e)));
+    all.extend([-16, 0].map(|e| (format(true, 16, 15), e)));
+    all.extend([14, 15].map(|e| (format(true, 16, 0), e)));
+    all.extend([(format(false, 8, 8), -1), (format(false, 16, 16), -1)]);
+    all
 }
 
 /// Any pattern; a pattern with its size about the format's range; one with few bits, which makes ties.
@@ -169,7 +169,7 @@ fn pattern(random: &mut Random, kind: Kind, f: Format) -> u64 {
 }
 
 fn at_random(t: &mut Tally, signed: bool, random: &mut Random) {
-    for _ in 0..3_000_000 {
+    for _ in 0..2_000_000 {
         let width = random.pick(&WIDTHS);
         let f = Format { signed, width, frac: random.below(width as usize + 1) as u32 };
         let kind = random.pick(&[F32, F64]);
@@ -208,7 +208,7 @@ fn raws(t: &mut Tally, signed: bool) {
 }
 
 fn main() {
-    let long = std::env::args().nth(1).as_deref() == Some("long");
+    let count = std::env::args().nth(1).map_or(3, |a| a.parse().expect("SWEEPS is a number"));
     let mut t = Tally::default();
     let mut random = Random(1);
     for signed in [true, false] {
@@ -216,6 +216,6 @@ fn main() {
         raws(&mut t, signed);
         at_random(&mut t, signed, &mut random);
     }
-    sweeps(&mut t, long);
+    sweeps().into_iter().take(count).for_each(|(f, e)| sweep(&mut t, f, e));
     t.close()
 }
