@@ -11,7 +11,7 @@ log=$out/log
 rustc -O --edition 2024 --crate-type rlib --crate-name tamqoret --out-dir "$out" "$here/src/lib.rs" -L "native=$archives" -l static=capi
 with="-L native=$archives --extern tamqoret=$out/libtamqoret.rlib"
 status=0
-for name in cases fitting; do
+for name in cases fitting further; do
     # shellcheck disable=SC2086 # one word for each option
     rustc -O --edition 2024 --test -o "$out/$name" "$here/tests/$name.rs" $with
     "$out/$name" >>"$log" 2>&1 || status=1

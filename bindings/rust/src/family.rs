@@ -64,6 +64,32 @@ macro_rules! declarations {
                 pub safe fn shl(a: $raw, count: u32, width: u32, frac: u32, manner: u32) -> Raw;
                 #[link_name = concat!("tq_shr_", $family)]
                 pub safe fn shr(a: $raw, count: u32, width: u32, frac: u32, manner: u32) -> Raw;
+                #[link_name = concat!("tq_abs_", $family)]
+                pub safe fn abs(a: $raw, width: u32, frac: u32, manner: u32) -> Raw;
+                #[link_name = concat!("tq_signum_", $family)]
+                pub safe fn signum(a: $raw, width: u32, frac: u32, manner: u32) -> Raw;
+                #[link_name = concat!("tq_floor_", $family)]
+                pub safe fn floor(a: $raw, width: u32, frac: u32, manner: u32) -> Raw;
+                #[link_name = concat!("tq_ceil_", $family)]
+                pub safe fn ceil(a: $raw, width: u32, frac: u32, manner: u32) -> Raw;
+                #[link_name = concat!("tq_round_", $family)]
+                pub safe fn round(a: $raw, width: u32, frac: u32, manner: u32) -> Raw;
+                #[link_name = concat!("tq_round_ties_even_", $family)]
+                pub safe fn round_ties_even(a: $raw, width: u32, frac: u32, manner: u32) -> Raw;
+                #[link_name = concat!("tq_int_", $family)]
+                pub safe fn int(a: $raw, width: u32, frac: u32, manner: u32) -> Raw;
+                #[link_name = concat!("tq_frac_", $family)]
+                pub safe fn frac(a: $raw, width: u32, frac: u32, manner: u32) -> Raw;
+                #[link_name = concat!("tq_rem_euclid_", $family)]
+                pub safe fn rem_euclid(a: $raw, b: $raw, width: u32, frac: u32, manner: u32) -> Raw;
+                #[link_name = concat!("tq_div_euclid_", $family)]
+                pub safe fn div_euclid(a: $raw, b: $raw, width: u32, frac: u32, manner: u32) -> Raw;
+                #[link_name = concat!("tq_dist_", $family)]
+                pub safe fn dist(a: $raw, b: $raw, width: u32, frac: u32, manner: u32) -> Raw;
+                #[link_name = concat!("tq_mean_", $family)]
+                pub safe fn mean(a: $raw, b: $raw, width: u32, frac: u32, manner: u32) -> Raw;
+                #[link_name = concat!("tq_mul_add_", $family)]
+                pub safe fn mul_add(a: $raw, b: $raw, c: $raw, width: u32, frac: u32, manner: u32) -> Raw;
                 #[link_name = concat!("tq_swap_bytes_", $family)]
                 pub safe fn swap_bytes(a: $raw, width: u32, frac: u32) -> Raw;
                 #[link_name = concat!("tq_to_be_bytes_", $family)]
@@ -169,6 +195,52 @@ macro_rules! arithmetic {
     };
 }
 
+macro_rules! further {
+    ($raw:ty) => {
+        impl Format {
+            manners! { $raw: abs saturating_abs wrapping_abs overflowing_abs (a: $raw),
+                "The absolute value.",
+                |f: Format, a, manner| c::abs(a, f.width, f.frac, manner) }
+            manners! { $raw: signum saturating_signum wrapping_signum overflowing_signum (a: $raw),
+                "-1, 0 or 1, as the number is negative, zero or positive.",
+                |f: Format, a, manner| c::signum(a, f.width, f.frac, manner) }
+            manners! { $raw: floor saturating_floor wrapping_floor overflowing_floor (a: $raw),
+                "The next whole number toward minus infinity.",
+                |f: Format, a, manner| c::floor(a, f.width, f.frac, manner) }
+            manners! { $raw: ceil saturating_ceil wrapping_ceil overflowing_ceil (a: $raw),
+                "The next whole number toward plus infinity.",
+                |f: Format, a, manner| c::ceil(a, f.width, f.frac, manner) }
+            manners! { $raw: round saturating_round wrapping_round overflowing_round (a: $raw),
+                "The nearest whole number, ties away from zero.",
+                |f: Format, a, manner| c::round(a, f.width, f.frac, manner) }
+            manners! { $raw: round_ties_even saturating_round_ties_even wrapping_round_ties_even overflowing_round_ties_even (a: $raw),
+                "The nearest whole number, ties to even.",
+                |f: Format, a, manner| c::round_ties_even(a, f.width, f.frac, manner) }
+            manners! { $raw: int saturating_int wrapping_int overflowing_int (a: $raw),
+                "The whole part, toward minus infinity; 0 in a format without integer bits.",
+                |f: Format, a, manner| c::int(a, f.width, f.frac, manner) }
+            manners! { $raw: frac saturating_frac wrapping_frac overflowing_frac (a: $raw),
+                "What is left of the number without its whole part; the number itself in a format without integer bits.",
+                |f: Format, a, manner| c::frac(a, f.width, f.frac, manner) }
+            manners! { $raw: rem_euclid saturating_rem_euclid wrapping_rem_euclid overflowing_rem_euclid (a: $raw, b: $raw),
+                "The remainder of the Euclidean division, never negative. Dividing by 0 is [`Error::ZeroDivisor`].",
+                |f: Format, a, b, manner| c::rem_euclid(a, b, f.width, f.frac, manner) }
+            manners! { $raw: div_euclid saturating_div_euclid wrapping_div_euclid overflowing_div_euclid (a: $raw, b: $raw),
+                "The quotient of the Euclidean division, a whole number. Dividing by 0 is [`Error::ZeroDivisor`].",
+                |f: Format, a, b, manner| c::div_euclid(a, b, f.width, f.frac, manner) }
+            manners! { $raw: dist saturating_dist wrapping_dist overflowing_dist (a: $raw, b: $raw),
+                "The distance between the two.",
+                |f: Format, a, b, manner| c::dist(a, b, f.width, f.frac, manner) }
+            manners! { $raw: mean saturating_mean wrapping_mean overflowing_mean (a: $raw, b: $raw),
+                "The mean of the two, rounded toward minus infinity.",
+                |f: Format, a, b, manner| c::mean(a, b, f.width, f.frac, manner) }
+            manners! { $raw: mul_add saturating_mul_add wrapping_mul_add overflowing_mul_add (a: $raw, b: $raw, c: $raw),
+                "The product of `a` and `b`, rounded toward minus infinity, and `c` added; only the whole result has to fit.",
+                |f: Format, a, b, c, manner| c::mul_add(a, b, c, f.width, f.frac, manner) }
+        }
+    };
+}
+
 macro_rules! bytes {
     ($raw:ty) => {
         impl Format {
@@ -270,9 +342,10 @@ macro_rules! family {
 
         texts!($raw);
         arithmetic!($raw);
+        further!($raw);
         bytes!($raw);
         conversions!($raw);
     };
 }
 
-pub(crate) use {arithmetic, bytes, constants, conversions, declarations, family, manners, texts};
+pub(crate) use {arithmetic, bytes, constants, conversions, declarations, family, further, manners, texts};

@@ -9,7 +9,7 @@
 //! # Ok::<(), Error>(())
 //! ```
 
-use crate::family::{arithmetic, bytes, constants, conversions, declarations, family, manners, texts};
+use crate::family::{arithmetic, bytes, constants, conversions, declarations, family, further, manners, texts};
 
 family!("unsigned", u64);
 
