@@ -1,304 +1,134 @@
-// Compares the archive's conversions with models written here from document 01's words: format to format with an exact one over 128 bits,
-// patterns with the machine's own f32 and f64 (a raw's conversion rounds to nearest, ties to even, and the division by 2^F is exact). Built
-// and run by oracle/convert.sh.
+//! Holds the archive's conversions from format to format against document 01's words over 128-bit integers. Built and run by oracle/convert.sh.
 
-#[repr(C)]
-#[derive(Clone, Copy)]
-struct Signed {
-    number: u32,
-    flag: u32,
-    value: i64,
+mod common;
+mod manner;
+
+use common::{Answer, Random, Signed, Tally, Unsigned};
+use manner::{Exact, Format, MANNERS, NO_FORMATS, WIDTHS, edges, operand};
+
+unsafe extern "C" {
+    fn tq_convert_signed_to_signed(raw: i64, fw: u32, ff: u32, width: u32, frac: u32, manner: u32) -> Signed;
+    fn tq_convert_signed_to_unsigned(raw: i64, fw: u32, ff: u32, width: u32, frac: u32, manner: u32) -> Unsigned;
+    fn tq_convert_unsigned_to_signed(raw: u64, fw: u32, ff: u32, width: u32, frac: u32, manner: u32) -> Signed;
+    fn tq_convert_unsigned_to_unsigned(raw: u64, fw: u32, ff: u32, width: u32, frac: u32, manner: u32) -> Unsigned;
 }
 
-#[repr(C)]
-#[derive(Clone, Copy)]
-struct Unsigned {
-    number: u32,
-    flag: u32,
-    value: u64,
-}
-
-extern "C" {
-    fn tq_convert_signed_to_signed(
-        raw: i64,
-        from_width: u32,
-        from_frac: u32,
-        width: u32,
-        frac: u32,
-        manner: u32,
-    ) -> Signed;
-    fn tq_convert_signed_to_unsigned(
-        raw: i64,
-        from_width: u32,
-        from_frac: u32,
-        width: u32,
-        frac: u32,
-        manner: u32,
-    ) -> Unsigned;
-    fn tq_convert_unsigned_to_signed(
-        raw: u64,
-        from_width: u32,
-        from_frac: u32,
-        width: u32,
-        frac: u32,
-        manner: u32,
-    ) -> Signed;
-    fn tq_convert_unsigned_to_unsigned(
-        raw: u64,
-        from_width: u32,
-        from_frac: u32,
-        width: u32,
-        frac: u32,
-        manner: u32,
-    ) -> Unsigned;
-    fn tq_to_f32_signed(raw: i64, width: u32, frac: u32) -> Unsigned;
-    fn tq_to_f64_signed(raw: i64, width: u32, frac: u32) -> Unsigned;
-    fn tq_to_f32_unsigned(raw: u64, width: u32, frac: u32) -> Unsigned;
-    fn tq_to_f64_unsigned(raw: u64, width: u32, frac: u32) -> Unsigned;
-}
-
-// number, flag, value
-type Answer = (u32, u32, i128);
-
-#[derive(Clone, Copy)]
-struct Format {
-    signed: bool,
-    width: u32,
-    frac: u32,
-}
-
-const WIDTHS: [u32; 4] = [8, 16, 32, 64];
-const MANNERS: [u32; 6] = [0, 1, 2, 3, 4, u32::MAX];
-
-// ---- the model
-
-fn is_width(width: u32) -> bool {
-    WIDTHS.contains(&width)
-}
-
-fn settled(neg: bool, size: u128, f: Format, manner: u32) -> Answer {
-    let most: u128 = match (f.signed, neg) {
-        (true, true) => 1 << (f.width - 1),
-        (true, false) => (1 << (f.width - 1)) - 1,
-        (false, true) => 0,
-        (false, false) => (1 << f.width) - 1,
-    };
-    let fits = size <= most;
-    let value = |size: u128| if neg { -(size as i128) } else { size as i128 };
-    let low = if neg { size.wrapping_neg() } else { size } & ((1u128 << f.width) - 1);
-    let wrapped = match f.signed && low >> (f.width - 1) == 1 {
-        true => low as i128 - (1i128 << f.width),
-        false => low as i128,
-    };
-    match manner {
-        1 => (0, 0, value(size.min(most))),
-        2 => (0, 0, wrapped),
-        3 => (0, u32::from(!fits), wrapped),
-        _ if fits => (0, 0, value(size)),
-        _ => (10, 0, 0),
-    }
-}
-
-// 1 of either format goes before 2 of either.
-fn converted(raw: i128, from: Format, to: Format, manner: u32) -> Answer {
-    if !is_width(from.width) || !is_width(to.width) {
-        return (1, 0, 0);
-    }
-    if from.frac > from.width || to.frac > to.width {
-        return (2, 0, 0);
-    }
-    let neg = raw < 0;
-    let size = raw.unsigned_abs();
-    if from.frac <= to.frac {
-        return settled(neg, size << (to.frac - from.frac), to, manner);
-    }
-    let drop = from.frac - to.frac;
-    let lost = size & ((1u128 << drop) - 1) != 0;
-    settled(neg, (size >> drop) + u128::from(neg && lost), to, manner)
-}
-
-fn ported(raw: i128, from: Format, to: Format, m: u32) -> Answer {
-    let (fw, ff, w, f) = (from.width, from.frac, to.width, to.frac);
-    let on_signed = |a: Signed| (a.number, a.flag, a.value as i128);
-    let on_unsigned = |a: Unsigned| (a.number, a.flag, a.value as i128);
+fn found(raw: i128, from: Format, to: Format, manner: u32) -> Answer {
+    let (fw, ff, width, frac) = (from.width, from.frac, to.width, to.frac);
     unsafe {
         match (from.signed, to.signed) {
-            (true, true) => on_signed(tq_convert_signed_to_signed(raw as i64, fw, ff, w, f, m)),
-            (true, false) => on_unsigned(tq_convert_signed_to_unsigned(raw as i64, fw, ff, w, f, m)),
-            (false, true) => on_signed(tq_convert_unsigned_to_signed(raw as u64, fw, ff, w, f, m)),
-            (false, false) => on_unsigned(tq_convert_unsigned_to_unsigned(raw as u64, fw, ff, w, f, m)),
+            (true, true) => tq_convert_signed_to_signed(raw as i64, fw, ff, width, frac, manner).into(),
+            (true, false) => tq_convert_signed_to_unsigned(raw as i64, fw, ff, width, frac, manner).into(),
+            (false, true) => tq_convert_unsigned_to_signed(raw as u64, fw, ff, width, frac, manner).into(),
+            (false, false) => tq_convert_unsigned_to_unsigned(raw as u64, fw, ff, width, frac, manner).into(),
         }
     }
 }
 
-// ---- counting
-
-struct Count {
-    passed: u64,
-    failed: u64,
-}
-
-impl Count {
-    fn same(&mut self, what: &dyn Fn() -> String, got: Answer, want: Answer) {
-        if got == want {
-            self.passed += 1;
-            return;
-        }
-        self.failed += 1;
-        if self.failed <= 20 {
-            println!("{}: {got:?}, and the model says {want:?}", what());
-        }
-    }
-
-    fn convert(&mut self, raw: i128, from: Format, to: Format, manner: u32) {
-        let what = || {
-            let name = |f: Format| format!("{}{}.{}", if f.signed { "i" } else { "u" }, f.width, f.frac);
-            format!("{raw} from {} to {}, manner {manner}", name(from), name(to))
-        };
-        self.same(&what, ported(raw, from, to, manner), converted(raw, from, to, manner));
-    }
-
-    fn patterns(&mut self, raw: i128, f: Format) {
-        let fault = match (is_width(f.width), f.frac <= f.width) {
-            (false, _) => 1,
-            (true, false) => 2,
-            (true, true) => 0,
-        };
-        let (single, double) = match f.signed {
-            true => (raw as i64 as f32, raw as i64 as f64),
-            false => (raw as u64 as f32, raw as u64 as f64),
-        };
-        let of = |pattern: u64| if fault == 0 { (0, 0, pattern as i128) } else { (fault, 0, 0) };
-        let scale = f.frac.min(64) as i32;
-        let want32 = of((single / 2f32.powi(scale)).to_bits() as u64);
-        let want64 = of((double / 2f64.powi(scale)).to_bits());
-        let (got32, got64) = unsafe {
-            match f.signed {
-                true => (tq_to_f32_signed(raw as i64, f.width, f.frac), tq_to_f64_signed(raw as i64, f.width, f.frac)),
-                false => {
-                    (tq_to_f32_unsigned(raw as u64, f.width, f.frac), tq_to_f64_unsigned(raw as u64, f.width, f.frac))
-                }
-            }
-        };
-        let answer = |a: Unsigned| (a.number, a.flag, a.value as i128);
-        let what = || format!("{raw}, signed {}, width {}, frac {}, to a pattern", f.signed, f.width, f.frac);
-        self.same(&what, answer(got32), want32);
-        self.same(&what, answer(got64), want64);
+/// Fraction bits that the target has not are dropped: the floor.
+fn exact(raw: i128, from: u32, to: u32) -> Exact {
+    match to >= from {
+        true => Exact { neg: raw < 0, size: raw.unsigned_abs() << (to - from) },
+        false => Exact::of(raw.div_euclid(1 << (from - to))),
     }
 }
 
-// ---- what is asked
-
-struct Random(u64);
-
-impl Random {
-    fn next(&mut self) -> u64 {
-        self.0 ^= self.0 << 13;
-        self.0 ^= self.0 >> 7;
-        self.0 ^= self.0 << 17;
-        self.0
-    }
-
-    // a word of any length, often with a run of equal bits at its end
-    fn word(&mut self) -> u64 {
-        let x = self.next() >> (self.next() % 64);
-        match self.next() % 3 {
-            0 => x,
-            1 => x & (u64::MAX << (self.next() % 64)),
-            _ => x | !(u64::MAX << (self.next() % 64)),
-        }
-    }
-
-    fn format(&mut self) -> Format {
-        let width = WIDTHS[(self.next() % 4) as usize];
-        Format { signed: self.next() % 2 == 0, width, frac: (self.next() % (width as u64 + 1)) as u32 }
+/// A wrong width on either side goes before wrong fraction bits on either side.
+fn wanted(raw: i128, from: Format, to: Format, manner: u32) -> Answer {
+    match (from.fault(), to.fault()) {
+        (1, _) | (_, 1) => Answer::refused(1),
+        (2, _) | (_, 2) => Answer::refused(2),
+        _ => exact(raw, from.frac, to.frac).settled(to, manner),
     }
 }
 
-fn raw_of(word: u64, signed: bool) -> i128 {
-    if signed {
-        word as i64 as i128
-    } else {
-        word as i128
-    }
+fn compare(t: &mut Tally, raw: i128, from: Format, to: Format, manner: u32) {
+    t.same(found(raw, from, to, manner), wanted(raw, from, to, manner), || {
+        format!("{raw} of {from:?} to {to:?}, manner {manner}")
+    });
 }
 
-// powers of two and their neighbours, both signs
-fn edges(signed: bool) -> Vec<i128> {
-    let mut list = vec![];
-    for k in 0..=64u32 {
-        for d in -2..=2i128 {
-            for x in [(1i128 << k) + d, -(1i128 << k) + d, (3i128 << k) + d] {
-                let fits = if signed { i64::try_from(x).is_ok() } else { u64::try_from(x).is_ok() };
-                if fits {
-                    list.push(x);
+/// The signs of source and target.
+const SIGNS: [(bool, bool); 4] = [(true, true), (true, false), (false, true), (false, false)];
+
+/// Every raw of W = 8 and some numbers that it could not hold, from every F to every format.
+fn narrow(t: &mut Tally, signs: (bool, bool)) {
+    let all = Format { signed: signs.0, width: 8, frac: 0 };
+    let outside = edges(signs.0, 64).into_iter().chain(edges(signs.0, 16));
+    let raws: Vec<i128> = (all.least()..=all.most()).chain(outside).collect();
+    for frac in 0..=8 {
+        for to in Format::all(signs.1) {
+            for &raw in &raws {
+                for manner in 0..4 {
+                    compare(t, raw, Format { frac, ..all }, to, manner);
                 }
             }
         }
     }
-    list.sort();
-    list.dedup();
-    list
 }
 
-fn formats(signed: bool) -> Vec<Format> {
-    let mut list = vec![];
-    for width in [8, 16, 32, 64, 0, 7, 9, 65, u32::MAX] {
-        for frac in [0, 1, width / 2, width.wrapping_sub(1), width, width.wrapping_add(1), u32::MAX] {
-            list.push(Format { signed, width, frac });
+/// The edges of a format, and the numbers whose result is at an edge of the target.
+fn telling(from: Format, to: Format) -> Vec<i128> {
+    let mut raws = edges(from.signed, from.width);
+    for end in [to.least(), to.most() + 1] {
+        let at = if to.frac >= from.frac { end >> (to.frac - from.frac) } else { end << (from.frac - to.frac) };
+        raws.extend([at - 1, at, at + 1]);
+    }
+    let held = Format { signed: from.signed, width: 64, frac: 0 };
+    raws.retain(|raw| (held.least()..=held.most()).contains(raw));
+    raws
+}
+
+/// Every format to every format.
+fn wide(t: &mut Tally, signs: (bool, bool)) {
+    for from in Format::all(signs.0) {
+        for to in Format::all(signs.1) {
+            for raw in telling(from, to) {
+                for manner in 0..4 {
+                    compare(t, raw, from, to, manner);
+                }
+            }
         }
     }
-    list
+}
+
+/// What is no format, on one side or on both; and numbers of manners that are none.
+fn refused(t: &mut Tally, signs: (bool, bool)) {
+    let some = |signed| {
+        let good = [(8, 4), (64, 64), (16, 0)];
+        good.into_iter().chain(NO_FORMATS).map(move |(width, frac)| Format { signed, width, frac })
+    };
+    for from in some(signs.0) {
+        for to in some(signs.1) {
+            for manner in MANNERS {
+                for raw in [0, 1, 255, 1 << 40] {
+                    compare(t, raw, from, to, manner);
+                }
+            }
+        }
+    }
+}
+
+fn at_random(t: &mut Tally, signs: (bool, bool), random: &mut Random) {
+    for _ in 0..1_000_000 {
+        let mut format = |signed| {
+            let width = random.pick(&WIDTHS);
+            Format { signed, width, frac: random.below(width as usize + 1) as u32 }
+        };
+        let (from, to) = (format(signs.0), format(signs.1));
+        let raw = operand(random, signs.0);
+        compare(t, raw, from, to, random.pick(&MANNERS));
+    }
 }
 
 fn main() {
-    let mut count = Count { passed: 0, failed: 0 };
-    // every raw of 8 bits between every two formats of 8 bits, in every manner
-    for from_signed in [true, false] {
-        for to_signed in [true, false] {
-            for pair in 0..81 {
-                let from = Format { signed: from_signed, width: 8, frac: pair / 9 };
-                let to = Format { signed: to_signed, width: 8, frac: pair % 9 };
-                for byte in 0..=255u8 {
-                    let raw = if from_signed { byte as i8 as i128 } else { byte as i128 };
-                    for manner in MANNERS {
-                        count.convert(raw, from, to, manner);
-                    }
-                }
-            }
-        }
+    let mut t = Tally::default();
+    let mut random = Random(1);
+    for signs in SIGNS {
+        narrow(&mut t, signs);
+        wide(&mut t, signs);
+        refused(&mut t, signs);
+        at_random(&mut t, signs, &mut random);
     }
-    // the edges of a word, between formats and numbers that are none
-    for from_signed in [true, false] {
-        let raws = edges(from_signed);
-        for from in formats(from_signed) {
-            for &raw in &raws {
-                count.patterns(raw, from);
-            }
-            for to_signed in [true, false] {
-                for to in formats(to_signed) {
-                    for &raw in raws.iter().step_by(7) {
-                        for manner in MANNERS {
-                            count.convert(raw, from, to, manner);
-                        }
-                    }
-                }
-            }
-        }
-    }
-    // every raw of 16 bits, and words at random
-    for frac in 0..=16 {
-        for word in 0..=u16::MAX {
-            count.patterns(word as i16 as i128, Format { signed: true, width: 16, frac });
-            count.patterns(word as i128, Format { signed: false, width: 16, frac });
-        }
-    }
-    let mut random = Random(0x9e37_79b9_7f4a_7c15);
-    for _ in 0..4_000_000 {
-        let (from, to) = (random.format(), random.format());
-        let raw = raw_of(random.word(), from.signed);
-        count.convert(raw, from, to, (random.next() % 5) as u32);
-        count.patterns(raw, from);
-    }
-    println!("{} passed, {} failed", count.passed, count.failed);
+    t.close()
 }

@@ -6,5 +6,5 @@ here=$(cd "$(dirname "$0")" && pwd)
 archives=${1:-$here/../target/staticlib}
 out=$here/../target/oracle
 mkdir -p "$out"
-rustc -O --edition 2021 -o "$out/convert" "$here/convert.rs" -L "native=$archives" -l static=capi
+rustc -O --edition 2024 -o "$out/convert" "$here/convert.rs" -L "native=$archives" -l static=capi
 exec "$out/convert"
