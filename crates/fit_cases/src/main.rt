@@ -1,0 +1,28 @@
+// What `fit` prints of good files, of files that clip, and of each refusal: the files of data/, which oracle/fit_cases.py makes with the
+// file `stdout` beside src/.
+fn main() {
+    one(b"good.txt");
+    one(b"no_final_lf.txt");
+    one(b"clips_high.txt");
+    one(b"clips_low.txt");
+    one(b"sixty_four.txt");
+    one(b"16384_bytes.txt");
+    one(b"16385_bytes.txt");
+    one(b"sixty_five.txt");
+    one(b"empty.txt");
+    one(b"comments.txt");
+    one(b"crlf.txt");
+    one(b"nul.txt");
+    one(b"long_line.txt");
+    one(b"refused.txt");
+    one(b"missing.txt");
+    one(b".");
+    one(b"");
+}
+
+fn one(name: &[u8]) {
+    io::write_all(libc::STDOUT_FILENO, b"== ");
+    io::write_all(libc::STDOUT_FILENO, name);
+    io::write_all(libc::STDOUT_FILENO, b"\n");
+    report::file(name);
+}

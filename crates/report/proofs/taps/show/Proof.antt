@@ -1,0 +1,55 @@
+-- The walk over the taps ends.
+use Prim.Native.Nat.{_-_, _≤_}
+use lib.ListN.{length}
+use borrow.Author.Needs.{needs}
+use Rattle.report.proofs.taps.show.Statement.{statement}
+use Rattle.report.proofs.taps.show.Tie as tie
+
+abbrev Inv-loop : tie.InvT-loop
+Inv-loop lines taps i₀ i = i ≤ length taps
+
+abbrev μ-loop : tie.MeasureT-loop
+μ-loop lines taps i₀ i = length taps - i
+
+loop-holds : tie.Need-loop-holds Inv-loop μ-loop
+loop-holds c = search needs
+
+mul-raw : tie.Need-mul-raw Inv-loop μ-loop
+mul-raw c = search needs
+
+shared-slice-copy-out-raw : tie.Need-shared-slice-copy-out-raw Inv-loop μ-loop
+shared-slice-copy-out-raw c = search needs
+
+entry-requires : tie.Need-entry-requires Inv-loop μ-loop
+entry-requires c κs = search needs
+
+add-i : tie.Need-add-i Inv-loop μ-loop
+add-i c = search needs
+
+tap-requires : tie.Need-tap-requires Inv-loop μ-loop
+tap-requires c κs = search needs
+
+loop-less : tie.Need-loop-less Inv-loop μ-loop
+loop-less c = search needs
+
+loop-again : tie.Need-loop-again Inv-loop μ-loop
+loop-again c = search needs
+
+returns : tie.Need-returns Inv-loop μ-loop
+returns c = search needs
+
+pub show-spec : {M : Type 1} → statement M
+show-spec =
+    tie.close
+    (tie.spec
+    Inv-loop
+    μ-loop
+    loop-holds
+    mul-raw
+    shared-slice-copy-out-raw
+    entry-requires
+    add-i
+    tap-requires
+    loop-less
+    loop-again
+    returns)
