@@ -2,21 +2,9 @@
 
 #![allow(dead_code)]
 
-#[repr(C)]
-#[derive(Clone, Copy, Debug, PartialEq)]
-pub struct Signed {
-    pub number: u32,
-    pub flag: u32,
-    pub value: i64,
-}
-
-#[repr(C)]
-#[derive(Clone, Copy, Debug, PartialEq)]
-pub struct Unsigned {
-    pub number: u32,
-    pub flag: u32,
-    pub value: u64,
-}
+#[path = "capi.rs"]
+mod capi;
+pub use capi::{Signed, Unsigned};
 
 #[repr(C)]
 #[derive(Clone, Copy, Debug, PartialEq)]

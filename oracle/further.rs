@@ -1,25 +1,13 @@
 // Compares the archive's whole numbers and further arithmetic with an exact model over 128-bit integers, written here from the documentation's words.
-// Built and run by oracle/further.sh.
+// Built and run by `oracle/program further`.
 
-#[repr(C)]
-#[derive(Clone, Copy, Debug, PartialEq)]
-struct Signed {
-    number: u32,
-    flag: u32,
-    value: i64,
-}
+mod capi;
 
-#[repr(C)]
-#[derive(Clone, Copy, Debug, PartialEq)]
-struct Unsigned {
-    number: u32,
-    flag: u32,
-    value: u64,
-}
+use capi::{Signed, Unsigned};
 
 macro_rules! one {
     ($($name:literal $signed:ident $unsigned:ident),*) => {
-        extern "C" {
+        unsafe extern "C" {
             $(fn $signed(a: i64, width: u32, frac: u32, manner: u32) -> Signed;
               fn $unsigned(a: u64, width: u32, frac: u32, manner: u32) -> Unsigned;)*
         }
@@ -30,7 +18,7 @@ macro_rules! one {
 
 macro_rules! two {
     ($($name:literal $signed:ident $unsigned:ident),*) => {
-        extern "C" {
+        unsafe extern "C" {
             $(fn $signed(a: i64, b: i64, width: u32, frac: u32, manner: u32) -> Signed;
               fn $unsigned(a: u64, b: u64, width: u32, frac: u32, manner: u32) -> Unsigned;)*
         }
@@ -57,7 +45,7 @@ two!(
     "mean" tq_mean_signed tq_mean_unsigned
 );
 
-extern "C" {
+unsafe extern "C" {
     fn tq_mul_add_signed(a: i64, b: i64, c: i64, width: u32, frac: u32, manner: u32) -> Signed;
     fn tq_mul_add_unsigned(a: u64, b: u64, c: u64, width: u32, frac: u32, manner: u32) -> Unsigned;
 }

@@ -1,5 +1,5 @@
 //! Holds the fitting file of the archive against document 01's words (model.rs, literal.rs), on files made at random (files.rs). Built and run by
-//! oracle/fitting.sh. Every lent buffer lies between sentinels; what is not to be written must stay, also where the file is refused.
+//! `oracle/program fitting`. Every lent buffer lies between sentinels; what is not to be written must stay, also where the file is refused.
 //!
 //!     fitting [FILES] [SEED]
 

@@ -1,5 +1,5 @@
 //! Holds the archive's conversions from and to f32 and f64 patterns against the machine's own floats (machine.rs) and against an exact model over
-//! integers (exact.rs), which must agree with each other too. Built and run by oracle/float.sh.
+//! integers (exact.rs), which must agree with each other too. Built and run by `oracle/program float`.
 //!
 //!     float [SWEEPS]
 //!

@@ -4,7 +4,7 @@ use native.Mathlib.Omega.{arith}
 use mir.Syntax.{w64}
 use mir.Facts.{toZ-ofZ}
 use lib.IntN.{negℤ, _+ℤ_, _-ℤ_}
-use Rattle.arith.proofs.Signs.{via, via₂, difference-fits}
+use Rattle.arith.specs.Signs.{via, via₂, difference-fits}
 use borrow.Author.Needs.{needs}
 use Rattle.arith.proofs.exact.signed_difference.Statement.{statement}
 use Rattle.arith.proofs.exact.signed_difference.Tie as tie

@@ -7,7 +7,7 @@ use mir.Syntax.{w64}
 use mir.Facts.{toZ-ofZ}
 use lib.IntN.{ℤ, _*ℤ_}
 use Rattle.laws.specs.Floor.{floor}
-use Rattle.arith.proofs.Signs.{via₂, product-fits, shifted-back}
+use Rattle.arith.specs.Signs.{via₂, product-fits, shifted-back}
 use borrow.Author.Needs.{needs}
 use Rattle.arith.proofs.exact.signed_product.Statement.{statement}
 use Rattle.arith.proofs.exact.signed_product.Tie as tie

@@ -4,7 +4,7 @@ use native.Mathlib.Omega.{arith}
 use mir.Syntax.{w64}
 use mir.Facts.{toZ-ofZ}
 use lib.IntN.{_+ℤ_}
-use Rattle.arith.proofs.Signs.{via₂, sum-fits}
+use Rattle.arith.specs.Signs.{via₂, sum-fits}
 use borrow.Author.Needs.{needs}
 use Rattle.arith.proofs.exact.signed_sum.Statement.{statement}
 use Rattle.arith.proofs.exact.signed_sum.Tie as tie
