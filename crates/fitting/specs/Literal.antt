@@ -14,7 +14,8 @@ use Rattle.format.specs.declared.SignedAnswer.{SignedAnswer}
 use Rattle.format.specs.declared.SignedAnswer.the-variants.{Done as DoneS, Refused as RefusedS}
 use Rattle.format.specs.Meaning.{Sign, signed, Outcome, done, refused, unless, faultOf, isWidth, withSign, signedAnswer, numberS, valueS}
 use Rattle.format.specs.Theorems.{InRange, settle-in}
-use Rattle.grammar.specs.Meaning.{Scan, at, refuse, textLimit, literalRadix, literalScan, rawOf, readScan, literalOf}
+use Rattle.grammar.specs.Meaning.{Scan, at, refuse, literalRadix, literalScan, rawOf, readScan}
+use Rattle.grammar.specs.Readers.{textLimit, literalOf}
 use Rattle.grammar.specs.Theorems.{Early, literal-early}
 use Rattle.filter.specs.Range.{sample-sfits}
 use Rattle.fitting.specs.declared.line.Value.{Value}

@@ -14,7 +14,7 @@ use borrow.Author.Tests.{eq-eqb, ne-eqb, eqb-true}
 use Rattle.format.specs.declared.SignedAnswer.{SignedAnswer}
 use Rattle.format.specs.declared.SignedAnswer.the-variants.{Done as DoneS, Refused as RefusedS}
 use Rattle.format.specs.Meaning.{signed, Outcome, done, refused, signedAnswer, numberS, valueS}
-use Rattle.grammar.specs.Meaning.{literalOf}
+use Rattle.grammar.specs.Readers.{literalOf}
 use Rattle.grammar.specs.Theorems.{Early, width, frac, base, size, literal-early}
 use Rattle.fitting.specs.declared.FileAnswer.{FileAnswer}
 use Rattle.fitting.specs.declared.FileAnswer.the-variants.{Done, Refused, Line}

@@ -14,7 +14,8 @@ use borrow.Author.Tests.{ne-eqb, eq-eqb, le-leb}
 use Rattle.format.specs.declared.Manner.the-variants.{Strict}
 use Rattle.format.specs.Meaning.{signed, done, faultOf, isWidth, signedAnswer, numberS, valueS}
 use Rattle.format.specs.Theorems.{InRange}
-use Rattle.grammar.specs.Meaning.{isSign, prefixMark, prefixRadix, literalMinus, literalRadix, literalOf}
+use Rattle.grammar.specs.Meaning.{isSign, prefixMark, prefixRadix, literalMinus, literalRadix}
+use Rattle.grammar.specs.Readers.{literalOf}
 use Rattle.grammar.specs.Literals.{Opens}
 use Rattle.grammar.specs.Theorems.{literal-plain}
 use Rattle.decimal.specs.Meaning.{byteOf, wholeDigits, fractionDigits, minus, textOf, rawText}
@@ -195,8 +196,16 @@ module _ (rs : List ℤ) (range : Raws rs) (some : 1 ≤ length rs) (few : lengt
   no-fault : fileFault (length (fileOf rs)) (length vs) (length lines) (length raws) (length answers) (length taps) ≡ 0
   unfolding fileFault roomFault
   no-fault =
-      rw (read .count, le-leb (length (fileOf rs)) fileLimit (omega (arith, file-short range)), le-leb (length rs) mostTaps few, eq-eqb (length lines) (length raws) same-raws,
-      eq-eqb (length lines) (length answers) same-answers, le-leb (length rs) (length lines) room, le-leb (length rs) (length taps) taps-room, ne-eqb (length rs) 0 (λ z. omega arith))
+      rw (
+        read .count,
+        le-leb (length (fileOf rs)) fileLimit (omega (arith, file-short range)),
+        le-leb (length rs) mostTaps few,
+        eq-eqb (length lines) (length raws) same-raws,
+        eq-eqb (length lines) (length answers) same-answers,
+        le-leb (length rs) (length lines) room,
+        le-leb (length rs) (length taps) taps-room,
+        ne-eqb (length rs) 0 (λ z. omega arith),
+      )
 
   pub written-back : fittedOf (fileOf rs) lines raws answers taps
       ≡ fitted (Done (length rs)) (over (map lineNumber vs) lines) (over rs raws) (over (map numberAt vs) answers) (over rs taps)
