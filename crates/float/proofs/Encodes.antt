@@ -16,7 +16,7 @@ use Rattle.float.specs.ToPattern.{toOf}
 use Rattle.laws.specs.Nearest.{nearestEven}
 use Rattle.float.specs.Meaning.{Binary, bias, least, patternOf}
 use Rattle.float.specs.Parts.{binary, Small}
-use Rattle.float.specs.Encoding.{Roomy, Digits, Encoded, roomy-least, pattern-sum, sum-below, pattern-zero, pattern-sign}
+use Rattle.float.specs.Encoding.{Roomy, Digits, Encoded, placeOf, roomy-least, pattern-sum, sum-below, pattern-zero, pattern-sign}
 
 -- ---- the significand
 pub few-fit : (n d p : ℕ) → n < 2 ^ d → d ≤ p → p ≤ 53 → (p - d < 64) × (n * 2 ^ (p - d) < 2 ^ 64)
@@ -33,8 +33,8 @@ place-bounds p w room = (roomy-least p w room, omega (arith, pow-mono {i = w - 1
 
 -- ---- the sum, from the place u and the significand c that the code found
 module _ (p w n f d : ℕ) {u : ℕ} (room : Roomy p w) (digits : Digits n d) (frac : f ≤ 64)
-    (place : u ≡ (d + (least (binary p w) - f)) - p) where
-  part : {c : ℕ} → c ≡ nearestEven (n * 2 ^ p) (2 ^ d) → u * 2 ^ (p - 1) + c ≡ ((d + (least (binary p w) - f)) - p) * 2 ^ (p - 1) + nearestEven (n * 2 ^ p) (2 ^ d)
+    (place : u ≡ placeOf p w f d) where
+  part : {c : ℕ} → c ≡ nearestEven (n * 2 ^ p) (2 ^ d) → u * 2 ^ (p - 1) + c ≡ placeOf p w f d * 2 ^ (p - 1) + nearestEven (n * 2 ^ p) (2 ^ d)
   part e = ap₂ (λ (x y : ℕ). x * 2 ^ (p - 1) + y) place e
 
   part-below : {c : ℕ} → c ≡ nearestEven (n * 2 ^ p) (2 ^ d) → u * 2 ^ (p - 1) + c < 2 ^ (w + (p - 1))
@@ -51,7 +51,7 @@ module _ (p w n f d : ℕ) {u : ℕ} (room : Roomy p w) (digits : Digits n d) (f
 
   pub encoded : {a c : ℕ} → a ≡ u * 2 ^ (p - 1) → c ≡ nearestEven (n * 2 ^ p) (2 ^ d) → Encoded p w n f (a + c)
   encoded {a} {c} q e =
-      let same : a + c ≡ ((d + (least (binary p w) - f)) - p) * 2 ^ (p - 1) + nearestEven (n * 2 ^ p) (2 ^ d) = ap (λ (x : ℕ). x + c) q ∙ part e in
+      let same : a + c ≡ placeOf p w f d * 2 ^ (p - 1) + nearestEven (n * 2 ^ p) (2 ^ d) = ap (λ (x : ℕ). x + c) q ∙ part e in
       record { pattern = same ∙ sym (pattern-sum p w n f d room digits frac false ∙ omega arith); below = rw same (sum-below p w n f d room digits frac false) }
 
 pub encoded-zero : (p w n f : ℕ) → n ≡ 0 → Encoded p w n f 0

@@ -6,7 +6,7 @@ use mathlib.Core.Bool.{Bool, true, false, cond}
 use Prim.Native.Nat.{ℕ, zero, suc, _+_, _-_, _*_, _/_, _%_, _^_, _≤_, _<_}
 use native.Mathlib.Decide.{decLe}
 use native.Mathlib.Omega.{arith}
-use native.Mathlib.Nat.{le-antisymm, lt-of-lt-of-le, lt-of-le-of-lt, mul-div-cancel, mul-le-mul-right, mul-lt-mul-of-pos-right, mul-pos, pow-suc, le-of-mul-le-mul-right, zero-div}
+use native.Mathlib.Nat.{le-antisymm, lt-of-lt-of-le, lt-of-le-of-lt, mul-div-cancel, mul-le-mul-right, mul-lt-mul-of-pos-right, mul-pos, pow-suc}
 use lib.Count.{leadingZeros, leading-top}
 use lib.Dec.{ltb}
 use lib.Ieee.{size}
@@ -80,7 +80,10 @@ scaled-many p n d h =
     ap (λ (v : ℕ). nearestEven (n * 2 ^ p) v) (power-sub p d h)
     ∙ nearest-scale n (2 ^ (d - p)) (2 ^ p) (pow-pos (d - p)) (pow-pos p)
 
--- ---- the place and the significand of the meaning, from the digits of n
+-- ---- the place and the significand of the meaning, from the digits of n: the last digit of the significand stands so many steps up
+abbrev pub placeOf : ℕ → ℕ → ℕ → ℕ → ℕ
+placeOf p w f d = (d + (least (binary p w) - f)) - p
+
 roomy-bias : (p w : ℕ) → Roomy p w → 127 ≤ bias (binary p w)
 roomy-bias p w room = omega (arith, pow-mono {i = 7} {j = w - 1} (omega (arith, room .roomy)))
 
@@ -106,7 +109,7 @@ module _ (p w n f d : ℕ) (room : Roomy p w) (digits : Digits n d) (frac : f �
       (rw (j, pow-add) (mul-le-mul-right (2 ^ k) (digits .low)))
       (rw pow-add (mul-lt-mul-of-pos-right (digits .high) (pow-pos k)))
 
-  pub unit-is : unit (binary p w) n f ≡ (d + (least (binary p w) - f)) - p
+  pub unit-is : unit (binary p w) n f ≡ placeOf p w f d
   unit-is = ap (λ (s : ℕ). s - p) steps-digits
 
   pub significand-is : significand (binary p w) n f ≡ nearestEven (n * 2 ^ p) (2 ^ d)
@@ -133,7 +136,7 @@ module _ (p w n f d : ℕ) (room : Roomy p w) (digits : Digits n d) (frac : f �
       lt-of-le-of-lt most (pow-lt {i = p + u} {j = l + bias (binary p w) + 1} (omega (arith, unit-is, past-frac, field-bias, digits .most)))
 
   -- E stays below the one of infinities
-  pub place-below : ((d + (least (binary p w) - f)) - p) + 2 < 2 ^ w - 1
+  pub place-below : placeOf p w f d + 2 < 2 ^ w - 1
   place-below = omega (arith, past-frac, field-bias, digits .most, double w (omega (arith, room .roomy)))
 
 -- ---- the sum
@@ -155,20 +158,21 @@ by-sum p w neg c k some low high = rw (le-ltb c (2 ^ (p - 1)) low) (go (decLe (s
         rw (le-ltb c (2 ^ p) (omega arith)) (omega (arith, double p some))
 
 module _ (p w n f d : ℕ) (room : Roomy p w) (digits : Digits n d) (frac : f ≤ 64) (neg : Bool) where
-  pub pattern-sum : patternOf (binary p w) neg n f ≡ cond neg (2 ^ (w + (p - 1))) 0 + (((d + (least (binary p w) - f)) - p) * 2 ^ (p - 1) + nearestEven (n * 2 ^ p) (2 ^ d))
+  pub pattern-sum : patternOf (binary p w) neg n f
+      ≡ cond neg (2 ^ (w + (p - 1))) 0 + (placeOf p w f d * 2 ^ (p - 1) + nearestEven (n * 2 ^ p) (2 ^ d))
   unfolding patternOf
   pattern-sum =
       let some : 1 ≤ p = omega (arith, room .small .some) in
       let c = nearestEven (n * 2 ^ p) (2 ^ d) in
       rw (lt-ltb (nearestSteps (binary p w) n f) (2 ^ (least (binary p w) + bias (binary p w) + 1)) (steps-below p w n f d room digits frac))
       (ap₂ (λ (v k : ℕ). patternBy (binary p w) neg v k) (significand-is p w n f d room digits frac) (unit-is p w n f d room digits frac)
-      ∙ by-sum p w neg c ((d + (least (binary p w) - f)) - p) some (scaled-least p n d some digits) (scaled-most p n d some digits))
+      ∙ by-sum p w neg c (placeOf p w f d) some (scaled-least p n d some digits) (scaled-most p n d some digits))
 
   -- the part without the sign is below the sign's bit
-  pub sum-below : ((d + (least (binary p w) - f)) - p) * 2 ^ (p - 1) + nearestEven (n * 2 ^ p) (2 ^ d) < 2 ^ (w + (p - 1))
+  pub sum-below : placeOf p w f d * 2 ^ (p - 1) + nearestEven (n * 2 ^ p) (2 ^ d) < 2 ^ (w + (p - 1))
   sum-below =
       let some : 1 ≤ p = omega (arith, room .small .some) in
-      let u = (d + (least (binary p w) - f)) - p in
+      let u = placeOf p w f d in
       let small : u + 2 < 2 ^ w = omega (arith, place-below p w n f d room digits frac) in
       let over : (u + 2) * 2 ^ (p - 1) < 2 ^ w * 2 ^ (p - 1) = mul-lt-mul-of-pos-right small (pow-pos (p - 1)) in
       rw pow-add (omega (arith, over, scaled-most p n d some digits, double p some))
@@ -177,8 +181,12 @@ module _ (p w n f d : ℕ) (room : Roomy p w) (digits : Digits n d) (frac : f �
 pub pattern-zero : (b : Binary) (f : ℕ) → patternOf b false 0 f ≡ 0
 unfolding patternOf patternBy nearestSteps
 pattern-zero b f =
-    let c : significand b 0 f ≡ 0 = ap (λ (v : ℕ). nearestEven v (2 ^ f * 2 ^ unit b 0 f)) (omega arith) ∙ nearest-none 0 (2 ^ f * 2 ^ unit b 0 f) (omega (arith, mul-pos (pow-pos f) (pow-pos (unit b 0 f)))) in
-    rw (c, lt-ltb (0 * 2 ^ unit b 0 f) (2 ^ (least b + bias b + 1)) (omega (arith, pow-pos (least b + bias b + 1))), lt-ltb 0 (2 ^ (b .precision - 1)) (pow-pos (b .precision - 1))) (omega arith)
+    let u = unit b 0 f in
+    let top = 2 ^ (least b + bias b + 1) in
+    let some : 0 < 2 ^ f * 2 ^ u = mul-pos (pow-pos f) (pow-pos u) in
+    let c : significand b 0 f ≡ 0 = ap (λ (v : ℕ). nearestEven v (2 ^ f * 2 ^ u)) (omega arith) ∙ nearest-none 0 (2 ^ f * 2 ^ u) (omega arith) in
+    rw (c, lt-ltb (0 * 2 ^ u) top (omega (arith, pow-pos (least b + bias b + 1))), lt-ltb 0 (2 ^ (b .precision - 1)) (pow-pos (b .precision - 1)))
+    (omega arith)
 
 -- the sign is its bit on top, whatever the number
 pub pattern-sign : (b : Binary) (n f : ℕ) → patternOf b true n f ≡ 2 ^ (b .field + (b .precision - 1)) + patternOf b false n f

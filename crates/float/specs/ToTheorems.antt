@@ -21,9 +21,11 @@ use Rattle.format.specs.Fault.{fault-free, width-bounds}
 use Rattle.format.specs.Settle.{unless-none}
 use Rattle.format.specs.Theorems.{InRange, limit, lowest-out, highest-out, settle-fits}
 use Rattle.float.specs.Folds.{limit-word}
-use Rattle.float.specs.Meaning.{Binary, bias, least, negative, biased, trailing, steps, finite, ofFields, valueOf, rawOf, ofValue, fromOf, unit, significand, nearestSteps, rounded, joined, patternBy, patternOf}
+use Rattle.float.specs.Meaning.{Binary, bias, least, negative, biased, trailing, steps, finite, ofFields, valueOf, rawOf, ofValue, fromOf}
+use Rattle.float.specs.Meaning.{unit, significand, nearestSteps, rounded, joined, patternBy, patternOf}
 use Rattle.float.specs.Parts.{binary, Small}
-use Rattle.float.specs.Encoding.{Roomy, Digits, digits-of, unit-is, significand-is, steps-below, place-below, scaled-least, scaled-most, scaled-few, scaled-many, double, power-sub, roomy-least}
+use Rattle.float.specs.Encoding.{Roomy, Digits, digits-of, unit-is, significand-is, steps-below, place-below, roomy-least}
+use Rattle.float.specs.Encoding.{scaled-least, scaled-most, scaled-few, double, power-sub}
 
 -- ---- "nearest, ties to even": n / 2^f in units of the significand's last place
 pub significand-nearest : (b : Binary) (n f : ℕ) → Nearest (n * 2 ^ least b) (2 ^ f * 2 ^ unit b n f) (significand b n f)
@@ -91,7 +93,8 @@ module _ (p w n f : ℕ) (room : Roomy p w) (word : n < 2 ^ 64) (frac : f ≤ 64
   unfolding patternOf patternBy nearestSteps
   value-zero z =
       let u = unit (binary p w) n f in
-      rw (significand-zero (binary p w) n f z, lt-ltb (0 * 2 ^ u) (2 ^ (least (binary p w) + bias (binary p w) + 1)) (omega (arith, pow-pos (least (binary p w) + bias (binary p w) + 1))), lt-ltb 0 (2 ^ (p - 1)) (pow-pos (p - 1)))
+      let top = least (binary p w) + bias (binary p w) + 1 in
+      rw (significand-zero (binary p w) n f z, lt-ltb (0 * 2 ^ u) (2 ^ top) (omega (arith, pow-pos top)), lt-ltb 0 (2 ^ (p - 1)) (pow-pos (p - 1)))
       (joined-value p w neg 0 0 (pow-pos (p - 1)) (omega (arith, pow-mono {i = 8} {j = w} (room .roomy))) ∙ ap (λ (v : ℕ). finite neg v) (omega arith))
 
   value-some : (d : ℕ) → Digits n d → valueOf (binary p w) (patternOf (binary p w) neg n f) ≡ finite neg (nearestSteps (binary p w) n f)
@@ -102,8 +105,10 @@ module _ (p w n f : ℕ) (room : Roomy p w) (word : n < 2 ^ 64) (frac : f ≤ 64
       let e = significand-is p w n f d room digits frac in
       let at-least : 2 ^ (p - 1) ≤ c = rw e (scaled-least p n d some digits) in
       let at-most : c ≤ 2 ^ p = rw e (scaled-most p n d some digits) in
-      let below : unit (binary p w) n f + 2 < 2 ^ w - 1 = omega (arith, unit-is p w n f d room digits frac, place-below p w n f d room digits frac) in
-      rw (lt-ltb (c * 2 ^ unit (binary p w) n f) (2 ^ (least (binary p w) + bias (binary p w) + 1)) (steps-below p w n f d room digits frac), le-ltb c (2 ^ (p - 1)) at-least)
+      let place = place-below p w n f d room digits frac in
+      let below : unit (binary p w) n f + 2 < 2 ^ w - 1 = omega (arith, unit-is p w n f d room digits frac) in
+      let top = 2 ^ (least (binary p w) + bias (binary p w) + 1) in
+      rw (lt-ltb (c * 2 ^ unit (binary p w) n f) top (steps-below p w n f d room digits frac), le-ltb c (2 ^ (p - 1)) at-least)
       (by (unit (binary p w) n f) c some at-least at-most below (decLe (suc c) (2 ^ p)))
     where
       by : (u c : ℕ) → 1 ≤ p → 2 ^ (p - 1) ≤ c → c ≤ 2 ^ p → u + 2 < 2 ^ w - 1 → Dec (suc c ≤ 2 ^ p)
@@ -211,7 +216,8 @@ sign-back (pos n) = rw (le-ltb n 0 (omega arith))
 sign-back (negsuc n) = refl
 
 -- the identity, in each manner, on every raw whose number has at most p significant bits
-module _ (p w : ℕ) (room : Roomy p w) (k : Manner) (s : Sign) (v f : ℕ) (a : ℤ) (format : faultOf v f ≡ 0) (range : InRange s v a) (short : Short p (natAbs a)) where
+module _ (p w : ℕ) (room : Roomy p w) (k : Manner) (s : Sign) (v f : ℕ) (a : ℤ) (format : faultOf v f ≡ 0) (range : InRange s v a)
+    (short : Short p (natAbs a)) where
   pub there-and-back : fromOf (binary p w) k s v f (patternOf (binary p w) (ltZ a (pos 0)) (natAbs a) f) ≡ done a false
   unfolding ofValue rawOf
   there-and-back =

@@ -1,10 +1,10 @@
 // The pattern of a number of a fixed-point format, as one number: such a number is 0 or normal, so nothing is subnormal and nothing overflows.
 ghost use mathlib.Core.Path.{_≡_};
-ghost use Prim.Native.Nat.{_+_, _-_, _*_, _^_, _≤_};
+ghost use Prim.Native.Nat.{_*_, _^_, _≤_};
 ghost use Rattle.laws.specs.Nearest.{nearestEven};
-ghost use Rattle.float.specs.Meaning.{patternOf, least as leastOf};
+ghost use Rattle.float.specs.Meaning.{patternOf};
 ghost use Rattle.float.specs.Parts.{binary};
-ghost use Rattle.float.specs.Encoding.{Roomy, Digits, Encoded};
+ghost use Rattle.float.specs.Encoding.{Roomy, Digits, Encoded, placeOf};
 use crate::bits;
 use crate::pattern;
 use crate::rounding;
@@ -38,7 +38,7 @@ fn of_magnitude(size: u64, frac: u32, precision: u32, field: u32) -> u64
 // Where the significand's last digit stands, in steps of the least positive number.
 fn place(digits: u32, frac: u32, precision: u32, field: u32) -> u64
     requires { ⌜ Roomy precision field × (digits ≤ 64) × (frac ≤ 64) ⌝ }
-    ensures { λ r. ⌜ r ≡ (digits + (leastOf (binary precision field) - frac)) - precision ⌝ }
+    ensures { λ r. ⌜ r ≡ placeOf precision field frac digits ⌝ }
 {
     (digits + (pattern::least(precision, field) - frac) - precision) as u64
 }

@@ -21,7 +21,9 @@ shifted-left-requires c κs = search needs
 returns : tie.Need-returns
 returns c =
     let a = c .before .before .before .args in
-    c .shifted-left .ensures ∙ ap (λ (z : ℤ). z *ℤ pos (2 ^ (a .frac - a .from-frac))) (c .before .of-signed .ensures ∙ toZ-ofZ {w = w64} (c .before .before .before .fits .raw)) ∙ sym (steps-more (a .from-frac) (a .frac) (a .raw) (omega arith))
+    c .shifted-left .ensures
+    ∙ ap (λ (z : ℤ). z *ℤ pos (2 ^ (a .frac - a .from-frac))) (c .before .of-signed .ensures ∙ toZ-ofZ {w = w64} (c .before .before .before .fits .raw))
+    ∙ sym (steps-more (a .from-frac) (a .frac) (a .raw) (omega arith))
 
 sub-drop-signed : tie.Need-sub-drop-signed
 sub-drop-signed c = search needs
@@ -38,8 +40,11 @@ of-number-requires c κs = search needs
 returns-2 : tie.Need-returns-2
 returns-2 c =
     let a = c .before .before .before .before .args in
-    c .of-number .ensures ∙ c .before .of-signed2 .ensures ∙ ok-back w64 (c .before .before .drop-signed .result) (c .before .before .drop-signed .ok)
-    ∙ c .before .before .drop-signed .ensures ∙ ap (λ (z : ℤ). floor z (2 ^ (a .from-frac - a .frac))) (toZ-ofZ {w = w64} (c .before .before .before .before .fits .raw))
+    c .of-number .ensures
+    ∙ c .before .of-signed2 .ensures
+    ∙ ok-back w64 (c .before .before .drop-signed .result) (c .before .before .drop-signed .ok)
+    ∙ c .before .before .drop-signed .ensures
+    ∙ ap (λ (z : ℤ). floor z (2 ^ (a .from-frac - a .frac))) (toZ-ofZ {w = w64} (c .before .before .before .before .fits .raw))
     ∙ sym (steps-fewer (a .from-frac) (a .frac) (a .raw) (omega arith))
 
 pub signed-spec : {M : Type 1} → statement M

@@ -17,7 +17,9 @@ shifted-left-requires c κs = search needs
 returns : tie.Need-returns
 returns c =
     let a = c .before .before .before .args in
-    c .shifted-left .ensures ∙ ap (λ (z : ℤ). z *ℤ pos (2 ^ (a .frac - a .from-frac))) (c .before .of-unsigned .ensures) ∙ sym (steps-more (a .from-frac) (a .frac) (pos (a .raw)) (omega arith))
+    c .shifted-left .ensures
+    ∙ ap (λ (z : ℤ). z *ℤ pos (2 ^ (a .frac - a .from-frac))) (c .before .of-unsigned .ensures)
+    ∙ sym (steps-more (a .from-frac) (a .frac) (pos (a .raw)) (omega arith))
 
 sub-drop-unsigned : tie.Need-sub-drop-unsigned
 sub-drop-unsigned c = search needs
@@ -34,7 +36,10 @@ of-number-requires c κs = search needs
 returns-2 : tie.Need-returns-2
 returns-2 c =
     let a = c .before .before .before .before .args in
-    c .of-number .ensures ∙ c .before .of-unsigned2 .ensures ∙ ap pos (c .before .before .drop-unsigned .ensures) ∙ sym (steps-fewer (a .from-frac) (a .frac) (pos (a .raw)) (omega arith))
+    c .of-number .ensures
+    ∙ c .before .of-unsigned2 .ensures
+    ∙ ap pos (c .before .before .drop-unsigned .ensures)
+    ∙ sym (steps-fewer (a .from-frac) (a .frac) (pos (a .raw)) (omega arith))
 
 pub unsigned-spec : {M : Type 1} → statement M
 unsigned-spec =

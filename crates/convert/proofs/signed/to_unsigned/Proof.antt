@@ -21,7 +21,8 @@ fit-requires c κs = met _ _ _ _ (c .before .before .of-formats .ensures) (c .be
 
 returns : tie.Need-returns
 returns c =
-    settled-unsigned _ _ _ _ _ (c .before .before .before .of-formats .ensures) (c .before .before .if1 .taken) (c .before .signed .ensures) (toZ-ofZ {w = w64} (c .before .before .before .before .fits .raw)) (c .fit .ensures)
+    settled-unsigned _ _ _ _ _ (c .before .before .before .of-formats .ensures) (c .before .before .if1 .taken)
+    (c .before .signed .ensures) (toZ-ofZ {w = w64} (c .before .before .before .before .fits .raw)) (c .fit .ensures)
 
 returns-2 : tie.Need-returns-2
 returns-2 c = fault-unsigned _ _ (c .before .of-formats .ensures) (c .if1 .left)

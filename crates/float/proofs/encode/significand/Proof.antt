@@ -37,7 +37,8 @@ by-rest-requires : tie.Need-by-rest-requires
 by-rest-requires c κs =
     let s = c .before .before .before in
     let most : s .args .size < 2 ^ 64 = s .fits .size .fits in
-    (half-left (s .args .size) (s .args .digits - s .args .precision) most (omega arith), masked-below (s .args .size) (s .args .digits - s .args .precision) 63 (omega (arith, s .pre .0 .most, s .pre .1)) (c .before .ones .ensures))
+    let k = s .args .digits - s .args .precision in
+    (half-left (s .args .size) k most (omega arith), masked-below (s .args .size) k 63 (omega (arith, s .pre .0 .most, s .pre .1)) (c .before .ones .ensures))
 
 returns-2 : tie.Need-returns-2
 returns-2 c = by-mask _ _ (c .before .before .ones .ensures) (c .before .power .ensures) (c .by-rest .ensures) ∙ sym (scaled-many _ _ _ (omega arith))

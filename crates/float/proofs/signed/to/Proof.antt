@@ -19,7 +19,8 @@ encode-requires c κs = encode-room _ _ _ _ (c .before .before .before .pre) (c 
 returns : tie.Need-returns
 returns c =
     let s = c .before .before .before .before in
-    answer-signed _ _ _ (c .before .before .before .check .ensures) (c .before .before .if1 .taken) (s .args .raw) (toZ-ofZ {w = w64} (s .fits .raw)) (c .before .magnitude .ensures) (c .encode .ensures)
+    answer-signed _ _ _ (c .before .before .before .check .ensures) (c .before .before .if1 .taken) (s .args .raw)
+    (toZ-ofZ {w = w64} (s .fits .raw)) (c .before .magnitude .ensures) (c .encode .ensures)
 
 returns-2 : tie.Need-returns-2
 returns-2 c = fault-unsigned _ _ (c .before .check .ensures) (c .if1 .left)
