@@ -26,7 +26,7 @@ use Rattle.filter.specs.Range.{sample-sfits}
 use Rattle.filter.specs.Promise.{unless}
 use Rattle.fitting.specs.declared.FileAnswer.the-variants.{Done}
 use Rattle.fitting.specs.Meaning.{fileLimit, lineFeed, hash, isValue, ValueLine, valueLine, valuesFrom, valuesOf, answerOf, lineNumber, rawAt, numberAt, judge, accepted, over, roomFault, fileFault, linesOf}
-use Rattle.fitting.specs.Promise.{fitted, fittedOf}
+use Rattle.fitting.specs.Promise.{fitted, roomyOf, fittedOf}
 use Rattle.fitting.specs.Lines.{value-more}
 use Rattle.fitting.specs.Read.{judge-done}
 use Rattle.fitting.specs.Theorems.{NoFeeds, none, more, joined, lines-joined}
@@ -195,12 +195,20 @@ module _ (rs : List ℤ) (range : Raws rs) (some : 1 ≤ length rs) (few : lengt
   no-fault : fileFault (length (fileOf rs)) (length vs) (length lines) (length raws) (length answers) (length taps) ≡ 0
   unfolding fileFault roomFault
   no-fault =
-      rw (read .count, le-leb (length (fileOf rs)) fileLimit (omega (arith, file-short range)), le-leb (length rs) mostTaps few, eq-eqb (length lines) (length raws) same-raws,
-      eq-eqb (length lines) (length answers) same-answers, le-leb (length rs) (length lines) room, le-leb (length rs) (length taps) taps-room, ne-eqb (length rs) 0 (λ z. omega arith))
+      rw (
+        read .count,
+        le-leb (length (fileOf rs)) fileLimit (omega (arith, file-short range)),
+        le-leb (length rs) mostTaps few,
+        eq-eqb (length lines) (length raws) same-raws,
+        eq-eqb (length lines) (length answers) same-answers,
+        le-leb (length rs) (length lines) room,
+        le-leb (length rs) (length taps) taps-room,
+        ne-eqb (length rs) 0 (λ z. omega arith),
+      )
 
   pub written-back : fittedOf (fileOf rs) lines raws answers taps
       ≡ fitted (Done (length rs)) (over (map lineNumber vs) lines) (over rs raws) (over (map numberAt vs) answers) (over rs taps)
-  unfolding fittedOf unless
+  unfolding roomyOf unless
   written-back =
       let told : judge (length vs) vs ≡ Done (length rs) = judge-done (length vs) vs (read .all) ∙ ap Done (read .count) in
       rw (no-fault, told, read .raws-are, read .all)
