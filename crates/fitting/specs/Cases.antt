@@ -17,7 +17,7 @@ use Rattle.filter.specs.Promise.{unless}
 use Rattle.fitting.specs.declared.FileAnswer.{FileAnswer}
 use Rattle.fitting.specs.declared.FileAnswer.the-variants.{Done, Refused, Line}
 use Rattle.fitting.specs.Meaning.{onto, linesOf, isValue, valuesFrom, valuesOf, answerOf, rawAt, numberAt, judge, accepted, roomFault, fileFault}
-use Rattle.fitting.specs.Promise.{fitted, fittedOf}
+use Rattle.fitting.specs.Promise.{fitted, roomyOf, fittedOf}
 
 -- a list and taps of some places, all 7
 abbrev sevens : ℕ → List ℕ
@@ -47,12 +47,12 @@ line-cases = (refl, (refl, (refl, (refl, refl))))
 
 -- two values with a comment and an empty line; the last line has no LF; the third place stays
 pub taps-case : Gives "# taps\n0.5\n\n-1" 3 (Done 2) (2 ∷ 4 ∷ 7 ∷ []) (pos 16384 ∷ negsuc 32767 ∷ pos 7 ∷ []) (0 ∷ 0 ∷ 7 ∷ []) (pos 16384 ∷ negsuc 32767 ∷ pos 7 ∷ [])
-unfolding fittedOf unless fileFault roomFault valuesOf valuesFrom linesOf onto isValue answerOf rawAt numberAt judge accepted bytes signedAnswer numberS valueS unlessFault faultOf isWidth lowest highest fits settle withSign digitOf isMark underscore ifFirst onExpDigit step scan ended finish prefixMark prefixRadix dropUnderscores literalMinus literalScan natFrom num den rawOf readScan literalOf nearestEven nearestBy
+unfolding roomyOf unless fileFault roomFault valuesOf valuesFrom linesOf onto isValue answerOf rawAt numberAt judge accepted bytes signedAnswer numberS valueS unlessFault faultOf isWidth lowest highest fits settle withSign digitOf isMark underscore ifFirst onExpDigit step scan ended finish prefixMark prefixRadix dropUnderscores literalMinus literalScan natFrom num den rawOf readScan literalOf nearestEven nearestBy
 taps-case = refl
 
 -- the second line is refused, 1 does not fit; the third is read all the same; the taps stay
 pub line-case : Gives "0.5\n1\n0x0.8\n+0.5" 4 (Line 2 10) (1 ∷ 2 ∷ 3 ∷ 4 ∷ []) (pos 16384 ∷ pos 0 ∷ pos 16384 ∷ pos 0 ∷ []) (0 ∷ 10 ∷ 0 ∷ 12 ∷ []) (signed-sevens 4)
-unfolding fittedOf unless fileFault roomFault valuesOf valuesFrom linesOf onto isValue answerOf rawAt numberAt judge accepted bytes signedAnswer numberS valueS unlessFault faultOf isWidth lowest highest fits settle withSign digitOf isMark underscore ifFirst onExpDigit step scan ended finish prefixMark prefixRadix dropUnderscores literalMinus literalScan natFrom num den rawOf readScan literalOf nearestEven nearestBy
+unfolding roomyOf unless fileFault roomFault valuesOf valuesFrom linesOf onto isValue answerOf rawAt numberAt judge accepted bytes signedAnswer numberS valueS unlessFault faultOf isWidth lowest highest fits settle withSign digitOf isMark underscore ifFirst onExpDigit step scan ended finish prefixMark prefixRadix dropUnderscores literalMinus literalScan natFrom num den rawOf readScan literalOf nearestEven nearestBy
 line-case = refl
 
 -- CR belongs to its line, and so do blanks; `#` starts a comment only where it stands first
@@ -60,7 +60,7 @@ pub damaged-cases :
     Gives "0.5\r\n" 1 (Line 1 13) (1 ∷ []) (pos 0 ∷ []) (13 ∷ []) (signed-sevens 1)
     × (Gives " #" 1 (Line 1 13) (1 ∷ []) (pos 0 ∷ []) (13 ∷ []) (signed-sevens 1)
     × Gives "0.5 # half" 1 (Line 1 13) (1 ∷ []) (pos 0 ∷ []) (13 ∷ []) (signed-sevens 1))
-unfolding fittedOf unless fileFault roomFault valuesOf valuesFrom linesOf onto isValue answerOf rawAt numberAt judge accepted bytes signedAnswer numberS valueS unlessFault faultOf isWidth lowest highest fits settle withSign digitOf isMark underscore ifFirst onExpDigit step scan ended finish prefixMark prefixRadix dropUnderscores literalMinus literalScan natFrom num den rawOf readScan literalOf nearestEven nearestBy
+unfolding roomyOf unless fileFault roomFault valuesOf valuesFrom linesOf onto isValue answerOf rawAt numberAt judge accepted bytes signedAnswer numberS valueS unlessFault faultOf isWidth lowest highest fits settle withSign digitOf isMark underscore ifFirst onExpDigit step scan ended finish prefixMark prefixRadix dropUnderscores literalMinus literalScan natFrom num den rawOf readScan literalOf nearestEven nearestBy
 damaged-cases = (refl, (refl, refl))
 
 -- no value; a place too few, also where a line is refused
@@ -69,5 +69,5 @@ pub refusal-cases :
     × (Untouched "# nothing\n\n" 1 40
     × (Untouched "0.5\n0.25\n" 1 5
     × Untouched "0.5\nx\n" 1 5))
-unfolding fittedOf unless fileFault roomFault valuesOf valuesFrom linesOf onto isValue bytes
+unfolding roomyOf unless fileFault roomFault valuesOf valuesFrom linesOf onto isValue bytes
 refusal-cases = (refl, (refl, (refl, refl)))

@@ -1,4 +1,5 @@
 pub mod Cases
+pub mod Filled
 pub mod Held
 pub mod Judge
 pub mod Lines
@@ -6,6 +7,7 @@ pub mod Literal
 pub mod Meaning
 pub mod Promise
 pub mod Read
+pub mod Records
 pub mod Room
 pub mod Store
 pub mod Theorems

@@ -54,18 +54,7 @@ module _ (file : List ℕ) (at : ℕ) {line : List ℕ} (here : at < length file
       let moved = drop-drop (suc (length (firstLine (drop at file)))) at file in
       whole ∙ rw (is, add-one, moved)
 
--- ---- counting the value lines: how many there are does not depend on the first one's number
-pub count-any : (n m : ℕ) (lines : List (List ℕ)) → length (valuesFrom n lines) ≡ length (valuesFrom m lines)
-unfolding valuesFrom
-count-any n m [] = refl
-count-any n m (line ∷ lines) = go (isValue line) (count-any (n + 1) (m + 1) lines)
-  where
-    go : (e : Bool) → length (valuesFrom (n + 1) lines) ≡ length (valuesFrom (m + 1) lines)
-        → length (cond e (valueLine n line ∷ valuesFrom (n + 1) lines) (valuesFrom (n + 1) lines))
-        ≡ length (cond e (valueLine m line ∷ valuesFrom (m + 1) lines) (valuesFrom (m + 1) lines))
-    go true h = ap suc h
-    go false h = h
-
+-- ---- the value lines of a line and those after it
 pub value-more : (n : ℕ) (line : List ℕ) (lines : List (List ℕ)) → isValue line ≡ true → valuesFrom n (line ∷ lines) ≡ valueLine n line ∷ valuesFrom (n + 1) lines
 unfolding valuesFrom
 value-more n line lines e = rw e
@@ -73,6 +62,16 @@ value-more n line lines e = rw e
 pub value-skip : (n : ℕ) (line : List ℕ) (lines : List (List ℕ)) → isValue line ≡ false → valuesFrom n (line ∷ lines) ≡ valuesFrom (n + 1) lines
 unfolding valuesFrom
 value-skip n line lines e = rw e
+
+-- ---- counting the value lines: how many there are does not depend on the first one's number
+pub count-any : (n m : ℕ) (lines : List (List ℕ)) → length (valuesFrom n lines) ≡ length (valuesFrom m lines)
+unfolding valuesFrom
+count-any n m [] = refl
+count-any n m (line ∷ lines) = go (isValue line) refl (count-any (n + 1) (m + 1) lines)
+  where
+    go : (b : Bool) → isValue line ≡ b → length (valuesFrom (n + 1) lines) ≡ length (valuesFrom (m + 1) lines) → length (valuesFrom n (line ∷ lines)) ≡ length (valuesFrom m (line ∷ lines))
+    go true e h = ap length (value-more n line lines e) ∙ ap suc h ∙ sym (ap length (value-more m line lines e))
+    go false e h = ap length (value-skip n line lines e) ∙ h ∙ sym (ap length (value-skip m line lines e))
 
 -- the value lines from a place on, and how many they are
 abbrev pub valuesAt : List ℕ → ℕ → ℕ → List ValueLine

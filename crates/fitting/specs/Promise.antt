@@ -28,11 +28,15 @@ listed vs lines raws answers taps =
     fitted (verdictOf vs) (over (map lineNumber vs) lines) (over (map rawAt vs) raws) (over (map numberAt vs) answers)
     (cond (accepted vs) (over (map rawAt vs) taps) taps)
 
-unfoldable pub fittedOf : List ℕ → List ℕ → List ℤ → List ℕ → List ℤ → Fitted
-fittedOf file lines raws answers taps =
-    unless (fileFault (length file) (length (valuesOf file)) (length lines) (length raws) (length answers) (length taps))
+-- what is refused, or the list, where a caller has a, b and c places for the three parts of the list
+unfoldable pub roomyOf : ℕ → ℕ → ℕ → List ℕ → List ℕ → List ℤ → List ℕ → List ℤ → Fitted
+roomyOf a b c file lines raws answers taps =
+    unless (fileFault (length file) (length (valuesOf file)) a b c (length taps))
     (λ n. fitted (Refused n) lines raws answers taps)
     (listed (valuesOf file) lines raws answers taps)
+
+abbrev pub fittedOf : List ℕ → List ℕ → List ℤ → List ℕ → List ℤ → Fitted
+fittedOf file lines raws answers taps = roomyOf (length lines) (length raws) (length answers) file lines raws answers taps
 
 abbrev pub Reads : List ℕ → List ℕ → List ℤ → List ℕ → List ℤ → FileAnswer → List ℕ → List ℤ → List ℕ → List ℤ → Type 0
 Reads file lines raws answers taps r lines' raws' answers' taps' = fitted r lines' raws' answers' taps' ≡ fittedOf file lines raws answers taps

@@ -14,7 +14,7 @@ use Rattle.filter.specs.Refuse.{which}
 use Rattle.fitting.specs.declared.FileAnswer.{FileAnswer}
 use Rattle.fitting.specs.declared.FileAnswer.the-variants.{Done, Refused, Line}
 use Rattle.fitting.specs.Meaning.{ValueLine, valuesOf, lineNumber, rawAt, numberAt, judge, accepted, over, fileFault}
-use Rattle.fitting.specs.Promise.{Fitted, fitted, listed, fittedOf}
+use Rattle.fitting.specs.Promise.{Fitted, fitted, listed, roomyOf}
 use Rattle.fitting.specs.Room.{checkedOf, Room, fault-none}
 use Rattle.fitting.specs.Judge.{judgedOf, judged-is}
 use Rattle.fitting.specs.Store.{Stored}
@@ -64,13 +64,13 @@ accepted-and n m vs h = go (accepted vs) refl
     go false e = absurd (judge-not n vs e m h)
 
 -- ---- the three ways out
-module _ (file lines : List ℕ) (raws : List ℤ) (answers : List ℕ) (taps : List ℤ) where
+module _ (a b c : ℕ) (file lines : List ℕ) (raws : List ℤ) (answers : List ℕ) (taps : List ℤ) where
   abbrev fault : ℕ
-  fault = fileFault (length file) (length (valuesOf file)) (length lines) (length raws) (length answers) (length taps)
+  fault = fileFault (length file) (length (valuesOf file)) a b c (length taps)
 
-  pub refused-first : {r : FileAnswer} → r ≡ checkedOf file (length lines) (length raws) (length answers) (length taps) → NotDone r
-      → fitted r lines raws answers taps ≡ fittedOf file lines raws answers taps
-  unfolding checkedOf fittedOf unless
+  pub refused-first : {r : FileAnswer} → r ≡ checkedOf file a b c (length taps) → NotDone r
+      → fitted r lines raws answers taps ≡ roomyOf a b c file lines raws answers taps
+  unfolding checkedOf roomyOf unless
   refused-first {r} e h = go (eqb fault 0) e
     where
       go : (b : Bool) → r ≡ cond b (Done (length (valuesOf file))) (Refused fault)
@@ -82,20 +82,20 @@ module _ (file lines : List ℕ) (raws : List ℤ) (answers : List ℕ) (taps : 
   pub record Checked (n : ℕ) : Type 0 where
     pub none : fault ≡ 0
     pub count : n ≡ length (valuesOf file)
-    pub room : Room (length file) (length (valuesOf file)) (length lines) (length raws) (length answers) (length taps)
+    pub room : Room (length file) (length (valuesOf file)) a b c (length taps)
 
-  pub checked-done : {r : FileAnswer} {n : ℕ} → r ≡ checkedOf file (length lines) (length raws) (length answers) (length taps) → r ≡ Done n → Checked n
+  pub checked-done : {r : FileAnswer} {n : ℕ} → r ≡ checkedOf file a b c (length taps) → r ≡ Done n → Checked n
   unfolding checkedOf
   checked-done {r} {n} e d = go (which fault (λ k. Refused k) (Done (length (valuesOf file))) (sym d ∙ e))
     where
       go : ((fault ≡ 0) × (Done n ≡ Done (length (valuesOf file)))) ⊎ (Done n ≡ Refused fault) → Checked n
       go (inl h) =
           let same = h .1 in
-          record { none = h .0; count = cc; room = fault-none (length file) (length (valuesOf file)) (length lines) (length raws) (length answers) (length taps) (h .0) }
+          record { none = h .0; count = cc; room = fault-none (length file) (length (valuesOf file)) a b c (length taps) (h .0) }
       go (inr h) = let z : _≡_ {A = ℕ} 0 1 = cc in absurd (omega arith)
 
-  module _ {n : ℕ} {l : List ℕ} {r : List ℤ} {a : List ℕ} {answer : FileAnswer} (known : Checked n) (stored : Stored (valuesOf file) lines raws answers l r a)
-      (judged : answer ≡ judgedOf n (take n l) (take n a)) where
+  module _ {n : ℕ} {l : List ℕ} {r : List ℤ} {w : List ℕ} {answer : FileAnswer} (known : Checked n) (stored : Stored (valuesOf file) lines raws answers l r w)
+      (judged : answer ≡ judgedOf n (take n l) (take n w)) where
     abbrev vs : List ValueLine
     vs = valuesOf file
 
@@ -105,11 +105,11 @@ module _ (file lines : List ℕ) (raws : List ℤ) (answers : List ℕ) (taps : 
         let second = ap (take n) (stored .answers-are) ∙ over-take numberAt vs answers n (known .count) in
         judged ∙ rw (first, second, known .count) (judged-is (length vs) vs)
 
-    closed : {t : List ℤ} → t ≡ cond (accepted vs) (over (map rawAt vs) taps) taps → fitted answer l r a t ≡ fittedOf file lines raws answers taps
-    unfolding fittedOf unless
+    closed : {t : List ℤ} → t ≡ cond (accepted vs) (over (map rawAt vs) taps) taps → fitted answer l r w t ≡ roomyOf a b c file lines raws answers taps
+    unfolding roomyOf unless
     closed e = rw (says, stored .lines-are, stored .raws-are, stored .answers-are, e, known .none)
 
-    pub refused-line : NotDone answer → fitted answer l r a taps ≡ fittedOf file lines raws answers taps
+    pub refused-line : NotDone answer → fitted answer l r w taps ≡ roomyOf a b c file lines raws answers taps
     refused-line h =
         let no-taps = accepted-or (length vs) vs (λ m d. h m (says ∙ d)) in
         closed (rw no-taps)
@@ -120,8 +120,8 @@ module _ (file lines : List ℕ) (raws : List ℤ) (answers : List ℕ) (taps : 
         let told : Done m ≡ Done (length vs) = sym d ∙ says ∙ judge-done (length vs) vs yes-taps in
         cc
 
-    pub all-done : {m : ℕ} {t : List ℤ} → answer ≡ Done m → t ≡ over (take m r) taps → fitted (Done m) l r a t ≡ fittedOf file lines raws answers taps
+    pub all-done : {m : ℕ} {t : List ℤ} → answer ≡ Done m → t ≡ over (take m r) taps → fitted (Done m) l r w t ≡ roomyOf a b c file lines raws answers taps
     all-done {m} {t} d e =
         let yes-taps = accepted-and (length vs) m vs (sym says ∙ d) in
         let kept = ap (take m) (stored .raws-are) ∙ over-take rawAt vs raws m (done-count d) in
-        ap (λ (x : FileAnswer). fitted x l r a t) (sym d) ∙ closed (e ∙ rw (kept, yes-taps))
+        ap (λ (x : FileAnswer). fitted x l r w t) (sym d) ∙ closed (e ∙ rw (kept, yes-taps))

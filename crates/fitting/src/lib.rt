@@ -4,6 +4,7 @@ ghost use Rattle.fitting.specs.Promise.{Reads};
 mod check;
 mod judge;
 mod line;
+pub mod list;
 mod store;
 
 // The longest file.

@@ -27,7 +27,7 @@ use Rattle.filter.specs.Range.{sample-sfits}
 use Rattle.filter.specs.Promise.{unless}
 use Rattle.fitting.specs.declared.FileAnswer.the-variants.{Done}
 use Rattle.fitting.specs.Meaning.{fileLimit, lineFeed, hash, isValue, ValueLine, valueLine, valuesFrom, valuesOf, answerOf, lineNumber, rawAt, numberAt, judge, accepted, over, roomFault, fileFault, linesOf}
-use Rattle.fitting.specs.Promise.{fitted, fittedOf}
+use Rattle.fitting.specs.Promise.{fitted, roomyOf, fittedOf}
 use Rattle.fitting.specs.Lines.{value-more}
 use Rattle.fitting.specs.Read.{judge-done}
 use Rattle.fitting.specs.Theorems.{NoFeeds, none, more, joined, lines-joined}
@@ -209,7 +209,7 @@ module _ (rs : List ℤ) (range : Raws rs) (some : 1 ≤ length rs) (few : lengt
 
   pub written-back : fittedOf (fileOf rs) lines raws answers taps
       ≡ fitted (Done (length rs)) (over (map lineNumber vs) lines) (over rs raws) (over (map numberAt vs) answers) (over rs taps)
-  unfolding fittedOf unless
+  unfolding roomyOf unless
   written-back =
       let told : judge (length vs) vs ≡ Done (length rs) = judge-done (length vs) vs (read .all) ∙ ap Done (read .count) in
       rw (no-fault, told, read .raws-are, read .all)

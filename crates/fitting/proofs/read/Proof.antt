@@ -1,26 +1,13 @@
 -- `read` meets its promise: what is refused first, then the list, then the first refused line or the taps. Assumes nothing.
-use mathlib.Core.Path.{_≡_, sym, ap, _∙_, subst}
-use mathlib.Core.Logic.{⊎-elim}
-use mathlib.Core.List.{[], _∷_}
-use Prim.Native.Nat.{ℕ}
+use mathlib.Core.Path.{ap}
 use native.Mathlib.Omega.{arith}
 use lib.ListN.{length}
-use denote.Enum.Declared.{tagOf}
-use types.Run.{OneOf}
 use borrow.Author.Needs.{needs}
-use Rattle.fitting.proofs.FileAnswer.{the-type}
-use Rattle.fitting.specs.declared.FileAnswer.{FileAnswer}
-use Rattle.fitting.specs.declared.FileAnswer.the-variants.{Done}
 use Rattle.fitting.specs.Meaning.{lineNumber, rawAt, numberAt, valuesOf}
-use Rattle.fitting.specs.Read.{NotDone, over-long, refused-first, checked-done, refused-line, done-count, all-done}
+use Rattle.fitting.specs.Read.{over-long, refused-first, checked-done, refused-line, done-count, all-done}
+use Rattle.fitting.proofs.Answers.{not-done}
 use Rattle.fitting.proofs.read.Statement.{statement}
 use Rattle.fitting.proofs.read.Tie as tie
-
--- what `let .. else` tells of the other answers
-not-done : (r : FileAnswer) → OneOf (1 ∷ 2 ∷ []) (tagOf the-type r) → NotDone r
-not-done r h n e =
-    let z : OneOf (1 ∷ 2 ∷ []) (tagOf the-type (Done n)) = subst (λ (x : FileAnswer). OneOf (1 ∷ 2 ∷ []) (tagOf the-type x)) e h in
-    ⊎-elim (λ (w : _≡_ {A = ℕ} 0 1). omega arith) (λ (w : _≡_ {A = ℕ} 0 2). omega arith) z
 
 check-requires : tie.Need-check-requires
 check-requires c κs = search needs
@@ -31,18 +18,18 @@ enum-known-checked c = search needs
 returns : tie.Need-returns
 returns c =
     let a = c .before .before .before .before .before .args in
-    refused-first (a .file .now) (a .lines .now) (a .raws .now) (a .answers .now) (a .taps .now) (c .before .check .ensures) (not-done (c .before .check .result) (c .match .keys2))
+    refused-first _ _ _ (a .file .now) (a .lines .now) (a .raws .now) (a .answers .now) (a .taps .now) (c .before .check .ensures) (not-done (c .before .check .result) (c .match .keys2))
 
 store-requires : tie.Need-store-requires
 store-requires c κs =
     let a = c .before .before .before .before .before .before .before .before .before .before .args in
-    let k = checked-done (a .file .now) (a .lines .now) (a .raws .now) (a .answers .now) (a .taps .now) (c .before .before .before .before .before .before .check .ensures) (c .before .before .before .before .checked .given .1) in
+    let k = checked-done _ _ _ (a .file .now) (a .lines .now) (a .raws .now) (a .answers .now) (a .taps .now) (c .before .before .before .before .before .before .check .ensures) (c .before .before .before .before .checked .given .1) in
     (k .room .short, (k .room .lines-room, (k .room .raws-room, k .room .answers-room)))
 
 judge-requires : tie.Need-judge-requires
 judge-requires c κs =
     let a = c .before .before .before .before .before .before .before .before .before .before .before .before .before .before .before .before .before .before .args in
-    let k = checked-done (a .file .now) (a .lines .now) (a .raws .now) (a .answers .now) (a .taps .now) (c .before .before .before .before .before .before .before .before .before .before .before .before .before .before .check .ensures) (c .before .before .before .before .before .before .before .before .before .before .before .before .checked .given .1) in
+    let k = checked-done _ _ _ (a .file .now) (a .lines .now) (a .raws .now) (a .answers .now) (a .taps .now) (c .before .before .before .before .before .before .before .before .before .before .before .before .before .before .check .ensures) (c .before .before .before .before .before .before .before .before .before .before .before .before .checked .given .1) in
     let st = c .before .before .before .before .before .before .before .store .ensures in
     let vs = valuesOf (a .file .now) in
     (omega (arith, k .count, ap length (st .lines-are), over-long lineNumber vs (a .lines .now)), omega (arith, k .count, ap length (st .answers-are), over-long numberAt vs (a .answers .now)))
@@ -62,16 +49,16 @@ same-length-3 c = search needs
 returns-2 : tie.Need-returns-2
 returns-2 c =
     let a = c .before .before .before .before .before .before .before .before .before .before .before .before .before .before .before .before .before .before .before .before .args in
-    let k = checked-done (a .file .now) (a .lines .now) (a .raws .now) (a .answers .now) (a .taps .now) (c .before .before .before .before .before .before .before .before .before .before .before .before .before .before .before .before .check .ensures) (c .before .before .before .before .before .before .before .before .before .before .before .before .before .before .checked .given .1) in
-    refused-line (a .file .now) (a .lines .now) (a .raws .now) (a .answers .now) (a .taps .now) k (c .before .before .before .before .before .before .before .before .before .store .ensures) (c .before .judge .ensures) (not-done (c .before .judge .result) (c .match2 .keys2))
+    let k = checked-done _ _ _ (a .file .now) (a .lines .now) (a .raws .now) (a .answers .now) (a .taps .now) (c .before .before .before .before .before .before .before .before .before .before .before .before .before .before .before .before .check .ensures) (c .before .before .before .before .before .before .before .before .before .before .before .before .before .before .checked .given .1) in
+    refused-line _ _ _ (a .file .now) (a .lines .now) (a .raws .now) (a .answers .now) (a .taps .now) k (c .before .before .before .before .before .before .before .before .before .store .ensures) (c .before .judge .ensures) (not-done (c .before .judge .result) (c .match2 .keys2))
 
 keep-requires : tie.Need-keep-requires
 keep-requires c κs =
     let a = c .before .before .before .before .before .before .before .before .before .before .before .before .before .before .before .before .before .before .before .before .before .before .before .before .args in
-    let k = checked-done (a .file .now) (a .lines .now) (a .raws .now) (a .answers .now) (a .taps .now) (c .before .before .before .before .before .before .before .before .before .before .before .before .before .before .before .before .before .before .before .before .check .ensures) (c .before .before .before .before .before .before .before .before .before .before .before .before .before .before .before .before .before .before .checked .given .1) in
+    let k = checked-done _ _ _ (a .file .now) (a .lines .now) (a .raws .now) (a .answers .now) (a .taps .now) (c .before .before .before .before .before .before .before .before .before .before .before .before .before .before .before .before .before .before .before .before .check .ensures) (c .before .before .before .before .before .before .before .before .before .before .before .before .before .before .before .before .before .before .checked .given .1) in
     let st = c .before .before .before .before .before .before .before .before .before .before .before .before .before .store .ensures in
     let vs = valuesOf (a .file .now) in
-    let same = done-count (a .file .now) (a .lines .now) (a .raws .now) (a .answers .now) (a .taps .now) k st (c .before .before .before .before .before .judge .ensures) (c .before .before .before .judged .given .1) in
+    let same = done-count _ _ _ (a .file .now) (a .lines .now) (a .raws .now) (a .answers .now) (a .taps .now) k st (c .before .before .before .before .before .judge .ensures) (c .before .before .before .judged .given .1) in
     (omega (arith, same, ap length (st .raws-are), over-long rawAt vs (a .raws .now)), omega (arith, same, k .room .taps-room))
 
 same-length-4 : tie.Need-same-length-4
@@ -89,8 +76,8 @@ same-length-7 c = search needs
 returns-3 : tie.Need-returns-3
 returns-3 c =
     let a = c .before .before .before .before .before .before .before .before .before .before .before .before .before .before .before .before .before .before .before .before .before .before .before .before .before .before .args in
-    let k = checked-done (a .file .now) (a .lines .now) (a .raws .now) (a .answers .now) (a .taps .now) (c .before .before .before .before .before .before .before .before .before .before .before .before .before .before .before .before .before .before .before .before .before .before .check .ensures) (c .before .before .before .before .before .before .before .before .before .before .before .before .before .before .before .before .before .before .before .before .checked .given .1) in
-    all-done (a .file .now) (a .lines .now) (a .raws .now) (a .answers .now) (a .taps .now) k (c .before .before .before .before .before .before .before .before .before .before .before .before .before .before .before .store .ensures) (c .before .before .before .before .before .before .before .judge .ensures) (c .before .before .before .before .before .judged .given .1) (c .before .keep .ensures)
+    let k = checked-done _ _ _ (a .file .now) (a .lines .now) (a .raws .now) (a .answers .now) (a .taps .now) (c .before .before .before .before .before .before .before .before .before .before .before .before .before .before .before .before .before .before .before .before .before .before .check .ensures) (c .before .before .before .before .before .before .before .before .before .before .before .before .before .before .before .before .before .before .before .before .checked .given .1) in
+    all-done _ _ _ (a .file .now) (a .lines .now) (a .raws .now) (a .answers .now) (a .taps .now) k (c .before .before .before .before .before .before .before .before .before .before .before .before .before .before .before .store .ensures) (c .before .before .before .before .before .before .before .judge .ensures) (c .before .before .before .before .before .judged .given .1) (c .before .keep .ensures)
 
 pub read-spec : {M : Type 1} → statement M
 read-spec =
