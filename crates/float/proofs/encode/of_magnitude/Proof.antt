@@ -35,8 +35,10 @@ add-result : tie.Need-add-result
 add-result c =
     let s = c .before .before .before .before in
     let digits = digits-of (s .args .size) (omega arith) (s .fits .size .fits) in
-    record { fits = sum-fits _ _ _ _ _ (s .pre .0) digits (s .pre .1) (c .before .before .place .ensures)
-      (c .before .shl-word .ensures) (c .significand .ensures) }
+    record {
+      fits = sum-fits _ _ _ _ _ (s .pre .0) digits (s .pre .1) (c .before .before .place .ensures)
+          (c .before .shl-word .ensures) (c .significand .ensures);
+    }
 
 returns-2 : tie.Need-returns-2
 returns-2 c =
