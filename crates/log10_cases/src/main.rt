@@ -88,12 +88,5 @@ fn write_signed(value: i64) {
     if value < 0 {
         io::write_all(OUT, b"-");
     }
-    io::print_decimal(OUT, magnitude(value));
-}
-
-fn magnitude(value: i64) -> u64 {
-    if value < 0 {
-        return (-1 - value) as u64 + 1;
-    }
-    value as u64
+    io::print_decimal(OUT, format::signed::magnitude(value));
 }

@@ -2,8 +2,8 @@
 use Prim.Native.Nat.{_≤_, _-_}
 use lib.ListN.{length}
 use borrow.Author.Needs.{needs}
-use Rattle.arith_cases.proofs.show.bytes.Statement.{statement}
-use Rattle.arith_cases.proofs.show.bytes.Tie as tie
+use Rattle.shown.proofs.bytes.Statement.{statement}
+use Rattle.shown.proofs.bytes.Tie as tie
 
 abbrev Inv-loop : tie.InvT-loop
 Inv-loop asked out i₀ t5 t6 i = i ≤ length out
