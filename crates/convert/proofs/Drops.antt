@@ -5,7 +5,6 @@ use native.Mathlib.Omega.{arith}
 use native.Mathlib.Nat.{lt-of-le-of-lt, lt-of-lt-of-le, div-eq-of-lt}
 use lib.IntN.{ℤ, pos, negsuc}
 use lib.Signed.{mag, mag-shr, shrZ}
-use lib.Dec.{lit<}
 use mir.Syntax.{w64}
 use mir.Val.{SFits, toZ, ofZ}
 use mir.Facts.{toZ-ofZ}

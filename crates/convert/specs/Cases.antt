@@ -2,7 +2,7 @@
 use mathlib.Core.Path.{_≡_, refl}
 use mathlib.Core.Bool.{true, false}
 use lib.IntN.{pos, negsuc}
-use Rattle.format.specs.declared.Manner.the-variants.{Strict, Saturating, Wrapping, Overflowing}
+use Rattle.format.specs.declared.Manner.the-variants.{Strict, Saturating, Overflowing}
 use Rattle.format.specs.Meaning.{signed, unsigned, isWidth, unless, lowest, highest, fits, hold, wrap, settle, done, refused}
 use Rattle.convert.specs.Meaning.{formatsFault, convertOf}
 

@@ -1,11 +1,10 @@
 -- Small files, computed from the meaning. `\n` is LF and `\r` is CR. Assumes nothing.
 use mathlib.Core.Path.{_≡_, refl}
-use mathlib.Core.Bool.{true, false, cond}
-use mathlib.Core.List.{List, [], _∷_, _++_, map}
-use Prim.Native.Nat.{ℕ, _+_}
+use mathlib.Core.List.{List, [], _∷_}
+use Prim.Native.Nat.{ℕ}
 use Prim.Native.String.{String}
 use lib.IntN.{ℤ, pos, negsuc}
-use lib.ListN.{length, replicate}
+use lib.ListN.{replicate}
 use Rattle.laws.specs.Nearest.{nearestEven, nearestBy}
 use Rattle.laws.specs.Text.{bytes}
 use Rattle.format.specs.Meaning.{isWidth, faultOf, lowest, highest, fits, settle, withSign, signedAnswer, numberS, valueS}

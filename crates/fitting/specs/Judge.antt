@@ -1,6 +1,6 @@
 -- What the list says, from its line numbers and answers, and the laws of the loop that looks for the first refused one. Assumes nothing.
-use mathlib.Core.Path.{_≡_, refl, sym, ap, _∙_}
-use mathlib.Core.Bool.{Bool, true, false, cond}
+use mathlib.Core.Path.{_≡_, refl, sym, _∙_}
+use mathlib.Core.Bool.{cond}
 use mathlib.Core.List.{List, [], _∷_, map}
 use Prim.Native.Nat.{ℕ, suc, _+_, _≤_, _<_}
 use native.Mathlib.Numerals.{add-one}
@@ -10,7 +10,7 @@ use lib.ListN.{length, take, drop, getD, length-take, drop-of-length-le}
 use lib.Seq.{drop-cons, getD-take}
 use borrow.Author.Tests.{eq-eqb, ne-eqb}
 use Rattle.fitting.specs.declared.FileAnswer.{FileAnswer}
-use Rattle.fitting.specs.declared.FileAnswer.the-variants.{Done, Refused, Line}
+use Rattle.fitting.specs.declared.FileAnswer.the-variants.{Done, Line}
 use Rattle.fitting.specs.Meaning.{ValueLine, lineNumber, numberAt, judge}
 
 unfoldable pub judgedOf : ℕ → List ℕ → List ℕ → FileAnswer

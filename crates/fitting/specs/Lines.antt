@@ -6,10 +6,10 @@ use Prim.Native.Nat.{ℕ, suc, _+_, _-_, _≤_, _<_}
 use native.Mathlib.Numerals.{add-one}
 use native.Mathlib.Omega.{arith}
 use lib.Dec.{eqb}
-use lib.ListN.{length, take, drop, getD, length-drop, length-append, drop-of-length-le}
+use lib.ListN.{length, take, drop, getD, length-drop, drop-of-length-le}
 use lib.Seq.{drop-cons, drop-drop, take-suc, getD-drop}
 use borrow.Author.Tests.{eq-eqb, ne-eqb}
-use Rattle.fitting.specs.Meaning.{lineFeed, hash, onto, linesOf, isValue, valueLine, ValueLine, valuesFrom, valuesOf}
+use Rattle.fitting.specs.Meaning.{lineFeed, hash, onto, linesOf, isValue, valueLine, ValueLine, valuesFrom}
 
 -- the bytes before the first LF; all where there is none
 unfoldable pub firstLine : List ℕ → List ℕ

@@ -1,8 +1,8 @@
 -- A value that a line gives is a number of 16 bits, and its answer is 0 exactly if it is one. Assumes nothing.
-use mathlib.Core.Path.{_≡_, refl, sym, ap, _∙_}
+use mathlib.Core.Path.{_≡_, sym, _∙_}
 use mathlib.Core.Bool.{Bool, true, false, cond}
 use mathlib.Core.List.{List}
-use Prim.Native.Nat.{ℕ, _≤_}
+use Prim.Native.Nat.{ℕ}
 use native.Mathlib.Omega.{arith}
 use lib.Dec.{leb, lit<}
 use lib.IntN.{ℤ, pos}
@@ -12,11 +12,10 @@ use mir.Val.{SFits}
 use Rattle.format.specs.declared.Manner.the-variants.{Strict}
 use Rattle.format.specs.declared.SignedAnswer.{SignedAnswer}
 use Rattle.format.specs.declared.SignedAnswer.the-variants.{Done as DoneS, Refused as RefusedS}
-use Rattle.format.specs.Meaning.{Sign, signed, Outcome, done, refused, unless, faultOf, isWidth, withSign, signedAnswer, numberS, valueS}
+use Rattle.format.specs.Meaning.{signed, Outcome, done, refused, unless, faultOf, isWidth, withSign, signedAnswer, numberS, valueS}
 use Rattle.format.specs.Theorems.{InRange, settle-in}
 use Rattle.grammar.specs.Meaning.{Scan, at, refuse, literalRadix, literalScan, rawOf, readScan}
 use Rattle.grammar.specs.Readers.{textLimit, literalOf}
-use Rattle.grammar.specs.Theorems.{Early, literal-early}
 use Rattle.filter.specs.Range.{sample-sfits}
 use Rattle.fitting.specs.declared.line.Value.{Value}
 use Rattle.fitting.specs.Meaning.{answerOf}

@@ -1,9 +1,9 @@
 -- The three ways out of `read`, put into the promised outcome: a refusal before anything is written, a refused line, and the taps. Assumes nothing.
-use mathlib.Core.Path.{_≡_, refl, sym, ap, _∙_, subst}
+use mathlib.Core.Path.{_≡_, refl, sym, ap, _∙_}
 use mathlib.Core.Logic.{_⊎_, inl, inr}
 use mathlib.Core.Bool.{Bool, true, false, cond}
-use mathlib.Core.List.{List, [], _∷_, _++_, map}
-use Prim.Native.Nat.{ℕ, _+_, _-_, _≤_}
+use mathlib.Core.List.{List, [], _∷_, map}
+use Prim.Native.Nat.{ℕ, _≤_}
 use native.Mathlib.Omega.{arith}
 use lib.Dec.{eqb}
 use lib.IntN.{ℤ}
@@ -14,7 +14,7 @@ use Rattle.filter.specs.Refuse.{which}
 use Rattle.fitting.specs.declared.FileAnswer.{FileAnswer}
 use Rattle.fitting.specs.declared.FileAnswer.the-variants.{Done, Refused, Line}
 use Rattle.fitting.specs.Meaning.{ValueLine, valuesOf, lineNumber, rawAt, numberAt, judge, accepted, over, fileFault}
-use Rattle.fitting.specs.Promise.{Fitted, fitted, listed, roomyOf}
+use Rattle.fitting.specs.Promise.{fitted, listed, roomyOf}
 use Rattle.fitting.specs.Room.{checkedOf, Room, fault-none}
 use Rattle.fitting.specs.Judge.{judgedOf, judged-is}
 use Rattle.fitting.specs.Store.{Stored}

@@ -3,14 +3,13 @@
 use mathlib.Core.Path.{_≡_, refl, sym, ap, _∙_}
 use mathlib.Core.Bool.{Bool, true, false, cond}
 use mathlib.Core.List.{List, [], _∷_, map}
-use Prim.Native.Nat.{ℕ, suc, _+_, _≤_, _<_}
-use native.Mathlib.Numerals.{add-one}
+use Prim.Native.Nat.{ℕ, _+_, _≤_, _<_}
 use native.Mathlib.Omega.{arith}
-use lib.IntN.{ℤ, pos}
+use lib.IntN.{ℤ}
 use lib.ListN.{length, drop, getD, set, length-map, length-drop, List·getD-map}
 use lib.Seq.{getD-drop, drop-drop}
 use Rattle.fitting.specs.declared.line.Value.{Value}
-use Rattle.fitting.specs.Meaning.{isValue, ValueLine, valueLine, valuesOf, answerOf, lineNumber, rawAt, numberAt, over}
+use Rattle.fitting.specs.Meaning.{isValue, ValueLine, valueLine, valuesOf, lineNumber, rawAt, numberAt, over}
 use Rattle.fitting.specs.Held.{Held, held-none, held-more, held-all}
 use Rattle.fitting.specs.Lines.{firstLine, valuesAt, line-within, at-value, at-skip, at-end}
 use Rattle.fitting.specs.Literal.{valueOf}

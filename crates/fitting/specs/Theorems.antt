@@ -1,24 +1,20 @@
 -- What is proved of the meaning of a fitting file: a file is its lines; the values are exactly the value lines, in order, each with its number; what a
 -- comment, an empty line or another value changes; and which line 42 names. Assumes nothing.
-use mathlib.Core.Path.{_≡_, refl, sym, ap, ap₂, _∙_, subst}
+use mathlib.Core.Path.{_≡_, refl, sym, ap, _∙_, subst}
 use mathlib.Core.Logic.{_⊎_, inl, inr}
 use mathlib.Core.Bool.{Bool, true, false, cond}
 use mathlib.Core.List.{List, [], _∷_, _++_, map, map-append, append-nil, append-assoc, List·Memᴰ, List·Memᴰ·head, List·Memᴰ·tail, List·Memᴰ·cases-cons, List·Memᴰ·not-nil}
-use Prim.Native.Nat.{ℕ, suc, _+_, _-_, _≤_, _<_}
-use native.Mathlib.Numerals.{add-one}
+use Prim.Native.Nat.{ℕ, suc, _+_, _-_, _≤_}
 use native.Mathlib.Omega.{arith}
 use lib.Dec.{eqb}
-use lib.IntN.{ℤ, pos}
+use lib.IntN.{pos}
 use lib.ListN.{length, getD}
-use borrow.Author.Tests.{eq-eqb, ne-eqb, eqb-true}
-use Rattle.format.specs.declared.SignedAnswer.{SignedAnswer}
-use Rattle.format.specs.declared.SignedAnswer.the-variants.{Done as DoneS, Refused as RefusedS}
+use borrow.Author.Tests.{ne-eqb}
 use Rattle.format.specs.Meaning.{signed, Outcome, done, refused, signedAnswer, numberS, valueS}
 use Rattle.grammar.specs.Readers.{literalOf}
 use Rattle.grammar.specs.Theorems.{Early, width, frac, base, size, literal-early}
-use Rattle.fitting.specs.declared.FileAnswer.{FileAnswer}
-use Rattle.fitting.specs.declared.FileAnswer.the-variants.{Done, Refused, Line}
-use Rattle.fitting.specs.Meaning.{lineFeed, onto, linesOf, isValue, ValueLine, valueLine, valuesFrom, valuesOf, answerOf, lineNumber, rawAt, numberAt, judge, verdictOf, accepted}
+use Rattle.fitting.specs.declared.FileAnswer.the-variants.{Line}
+use Rattle.fitting.specs.Meaning.{lineFeed, onto, linesOf, isValue, ValueLine, valueLine, valuesFrom, valuesOf, answerOf, rawAt, numberAt, judge, accepted}
 use Rattle.fitting.specs.Lines.{value-more, value-skip}
 
 -- ---- A file is its lines.

@@ -2,7 +2,7 @@
 use mathlib.Core.Path.{_≡_, refl, sym, ap, ap₂, _∙_}
 use mathlib.Core.Bool.{Bool, true, false}
 use Prim.Native.Nat.{ℕ, _+_, _-_, _*_, _/_, _^_, _≤_, _<_}
-use native.Mathlib.Nat.{mul-lt-mul-of-pos-right, lt-of-lt-of-le, div-lt-iff-lt-mul}
+use native.Mathlib.Nat.{mul-lt-mul-of-pos-right, div-lt-iff-lt-mul}
 use native.Mathlib.Omega.{arith}
 use lib.Pow.{pow-pos, pow-mono, pow-add}
 use lib.IntN.{ℤ, pos, natAbs}
@@ -14,8 +14,8 @@ use Rattle.format.specs.Answer.{done-unsigned, pass-unsigned}
 use Rattle.format.specs.Fault.{fault-free, width-bounds}
 use Rattle.float.specs.ToPattern.{toOf}
 use Rattle.laws.specs.Nearest.{nearestEven}
-use Rattle.float.specs.Meaning.{Binary, bias, least, patternOf}
-use Rattle.float.specs.Parts.{binary, Small}
+use Rattle.float.specs.Meaning.{Binary, least, patternOf}
+use Rattle.float.specs.Parts.{binary}
 use Rattle.float.specs.Encoding.{Roomy, Digits, Encoded, placeOf, roomy-least, pattern-sum, sum-below, pattern-zero, pattern-sign}
 
 -- ---- the significand

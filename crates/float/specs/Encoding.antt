@@ -1,9 +1,9 @@
 -- The pattern of n / 2^F as one sum. A number of a fixed-point format is 0 or a normal number of both formats, so the significand has its leading one, and
 -- E and T need no cut: the place times 2^(p-1), and the significand on top, whose leading one raises E by one, and by two where rounding has carried.
 -- Assumes nothing.
-use mathlib.Core.Path.{_≡_, refl, sym, ap, ap₂, _∙_}
+use mathlib.Core.Path.{_≡_, ap, ap₂, _∙_}
 use mathlib.Core.Bool.{Bool, true, false, cond}
-use Prim.Native.Nat.{ℕ, zero, suc, _+_, _-_, _*_, _/_, _%_, _^_, _≤_, _<_}
+use Prim.Native.Nat.{ℕ, suc, _+_, _-_, _*_, _/_, _^_, _≤_, _<_}
 use native.Mathlib.Decide.{decLe}
 use native.Mathlib.Omega.{arith}
 use native.Mathlib.Nat.{le-antisymm, lt-of-lt-of-le, lt-of-le-of-lt, mul-div-cancel, mul-le-mul-right, mul-lt-mul-of-pos-right, mul-pos, pow-suc}
@@ -13,7 +13,7 @@ use lib.Ieee.{size}
 use lib.Ieee.Digits.{size-lt, size-le}
 use lib.Pow.{pow-pos, pow-mono, pow-add, pow-lt}
 use borrow.Author.Tests.{lt-ltb, le-ltb}
-use Rattle.laws.specs.Nearest.{nearestEven, nearestBy, Nearest, nearest, nearest-scale, nearest-least, nearest-exact, nearest-none}
+use Rattle.laws.specs.Nearest.{nearestEven, nearest, nearest-scale, nearest-least, nearest-exact, nearest-none}
 use Rattle.float.specs.Meaning.{Binary, bias, least, unit, significand, nearestSteps, joined, patternBy, patternOf}
 use Rattle.float.specs.Parts.{binary, Small}
 

@@ -1,14 +1,14 @@
 -- What is proved of the patterns of numbers: the significand is the nearest and even at a tie; the pattern stands for the rounded number; and where the
 -- precision is enough, to a pattern and back is the identity. Assumes nothing.
-use mathlib.Core.Path.{_≡_, refl, sym, ap, ap₂, _∙_}
+use mathlib.Core.Path.{_≡_, refl, sym, ap, _∙_}
 use mathlib.Core.Bool.{Bool, true, false, cond}
-use Prim.Native.Nat.{ℕ, zero, suc, _+_, _-_, _*_, _/_, _%_, _^_, _≤_, _<_}
+use Prim.Native.Nat.{ℕ, suc, _+_, _-_, _*_, _/_, _%_, _^_, _≤_, _<_}
 use native.Mathlib.Decide.{decLe}
 use native.Mathlib.Nat.{mul-pos, mul-lt-mul-of-pos-right}
 use native.Mathlib.Omega.{arith}
 use lib.Arith.{digits-div, digits-mod, digits-lt}
 use lib.Count.{leadingZeros}
-use lib.Dec.{eqb, ltb, leb}
+use lib.Dec.{ltb, leb}
 use lib.IntN.{ℤ, pos, negsuc, natAbs}
 use lib.Pow.{pow-pos, pow-mono, pow-add}
 use lib.Signed.{ltZ}
@@ -19,11 +19,11 @@ use Rattle.format.specs.declared.Manner.{Manner}
 use Rattle.format.specs.Meaning.{Sign, faultOf, settle, withSign, done}
 use Rattle.format.specs.Fault.{fault-free, width-bounds}
 use Rattle.format.specs.Settle.{unless-none}
-use Rattle.format.specs.Theorems.{InRange, limit, lowest-out, highest-out, settle-fits}
+use Rattle.format.specs.Theorems.{InRange, lowest-out, highest-out, settle-fits}
 use Rattle.float.specs.Folds.{limit-word}
 use Rattle.float.specs.Meaning.{Binary, bias, least, negative, biased, trailing, steps, finite, ofFields, valueOf, rawOf, ofValue, fromOf}
 use Rattle.float.specs.Meaning.{unit, significand, nearestSteps, rounded, joined, patternBy, patternOf}
-use Rattle.float.specs.Parts.{binary, Small}
+use Rattle.float.specs.Parts.{binary}
 use Rattle.float.specs.Encoding.{Roomy, Digits, digits-of, unit-is, significand-is, steps-below, place-below, roomy-least}
 use Rattle.float.specs.Encoding.{scaled-least, scaled-most, scaled-few, double, power-sub}
 

@@ -5,11 +5,11 @@ use mathlib.Core.Path.{_≡_, refl, sym, ap, _∙_, subst}
 use mathlib.Core.Logic.{_⊎_, inl, inr}
 use mathlib.Core.Bool.{Bool, true, false, cond, false≢true}
 use mathlib.Core.List.{List, [], _∷_, _++_, map, List·Memᴰ, List·Memᴰ·cases-cons, List·Memᴰ·not-nil}
-use Prim.Native.Nat.{ℕ, suc, _+_, _*_, _/_, _%_, _^_, _≤_, _<_}
+use Prim.Native.Nat.{ℕ, suc, _+_, _*_, _%_, _^_, _≤_, _<_}
 use native.Mathlib.Omega.{arith}
-use lib.Dec.{leb, eqb}
+use lib.Dec.{eqb}
 use lib.IntN.{ℤ, pos, negsuc}
-use lib.ListN.{length, drop, length-append}
+use lib.ListN.{length, length-append}
 use borrow.Author.Tests.{ne-eqb, eq-eqb, le-leb}
 use Rattle.format.specs.declared.Manner.the-variants.{Strict}
 use Rattle.format.specs.Meaning.{signed, done, faultOf, isWidth, signedAnswer, numberS, valueS}
@@ -18,7 +18,7 @@ use Rattle.grammar.specs.Meaning.{isSign, prefixMark, prefixRadix, literalMinus
 use Rattle.grammar.specs.Readers.{literalOf}
 use Rattle.grammar.specs.Literals.{Opens}
 use Rattle.grammar.specs.Theorems.{literal-plain}
-use Rattle.decimal.specs.Meaning.{byteOf, wholeDigits, fractionDigits, minus, textOf, rawText}
+use Rattle.decimal.specs.Meaning.{byteOf, fractionDigits, minus, textOf, rawText}
 use Rattle.decimal.specs.Form.{Digits, Leads, lone, first, pointed, formText, Form, text-form, form-of}
 use Rattle.decimal.specs.Form.{none as no-digit, more as one-digit}
 use Rattle.decimal.specs.Theorems.{text-length, write-read}

@@ -1,5 +1,4 @@
 -- `fitting::line::line_at` gives the line that starts at a place. The loop's invariant: the bytes passed hold no LF. Assumes nothing.
-use mathlib.Core.Path.{_≡_, refl}
 use Prim.Native.Nat.{_-_, _≤_}
 use native.Mathlib.Omega.{arith}
 use borrow.Author.Needs.{needs}

@@ -1,5 +1,4 @@
 -- `fitting::line::read_value` meets its contract: the literal reader's promise, and a strict raw of 16 bits is a number of 16 bits. Assumes nothing.
-use mathlib.Core.Path.{_∙_}
 use borrow.Author.Needs.{needs}
 use mir.Syntax.{w16, w64}
 use mir.Facts.{toZ-ofZ}

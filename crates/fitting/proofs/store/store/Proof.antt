@@ -1,5 +1,5 @@
 -- `fitting::store::store` meets its contract. The loop's invariant: the lines before place `at` are through. Assumes nothing.
-use Prim.Native.Nat.{_-_, _+_, _≤_}
+use Prim.Native.Nat.{_-_, _+_}
 use native.Mathlib.Omega.{arith}
 use borrow.Author.Needs.{needs}
 use lib.ListN.{length}
