@@ -1,9 +1,9 @@
 #!/usr/bin/env python3
 """Holds docs/PROMISES.md and docs/promises/*.md against the sources; the last line is 'N passed, M failed'.
 
-Every public function of a crate stands in the crate's row and on its page, with the promise that its contract cites; one with a `requires` stands among
-the exceptions, and so does every private module with public functions; every function of a row exists. Files, promises, meanings, theorems, `unique` and
-must-fail edits that are cited exist, and every edit is on a page. The header declares what is exported. In the documents S stands for either sign."""
+Every public function of a crate stands in the crate's row and in a table of its page, with the promise that its contract cites; one with a `requires`
+stands among the exceptions, and so does every private module with public functions; every function of a row exists. Files, promises, meanings, theorems,
+`unique` and must-fail edits that are cited exist, and every edit is on a page. The header declares what is exported. In names S stands for either sign."""
 
 import re
 import sys
