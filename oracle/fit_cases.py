@@ -93,9 +93,9 @@ def report(data):
     text = data.decode("latin-1")
     values = [(n, line) for n, line in enumerate(text.split("\n"), 1) if line and not line.startswith("#")]
     if len(data) > 16384:
-        return ["refused 4: the file is above 16384 bytes; take out comments, or split it", "refused"]
+        return ["refused 4: the file is above 16384 bytes; give a fitting file, or take out comments", "refused"]
     if len(values) > 64:
-        return ["refused 41: the file holds more than 64 values; a filter has at most 64 taps", "refused"]
+        return ["refused 41: the file holds more than 64 values; give a fitting file of at most 64 taps, one on a line", "refused"]
     if not values:
         return ["refused 40: the file holds no value; write one number on a line, such as 0.5", "refused"]
     if any(line in REFUSED for _, line in values):

@@ -32,9 +32,11 @@ pub fn whole(number: u32) {
 
 fn file_fault(number: u32) {
     match number {
-        4 => out::text(b"the file is above 16384 bytes; take out comments, or split it"),
+        4 => out::text(b"the file is above 16384 bytes; give a fitting file, or take out comments"),
         40 => out::text(b"the file holds no value; write one number on a line, such as 0.5"),
-        41 => out::text(b"the file holds more than 64 values; a filter has at most 64 taps"),
+        41 => out::text(
+            b"the file holds more than 64 values; give a fitting file of at most 64 taps, one on a line",
+        ),
         _ => out::text(b"the list has too few places"),
     }
 }
