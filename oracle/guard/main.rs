@@ -7,6 +7,9 @@
 //! value 0 and flag 0; a done one has written no more than its answer says; the answer is one that the function can give; and it is the same
 //! wherever the buffers lie. Inputs are in pages that can only be read. Buffers of no elements are null, dangling, or against a forbidden page.
 
+// Here a pointer is to the elements of a buffer; capi.rs has the state as one array.
+#![allow(clashing_extern_declarations)]
+
 mod check;
 #[path = "../common.rs"]
 mod common;
