@@ -5,9 +5,11 @@ mod capi;
 #[allow(dead_code)]
 #[path = "src/format.rs"]
 mod format;
+mod tally;
 
 use capi::*;
 use format::{Format, WIDTHS};
+use tally::{Answer, Tally, of_signed, of_unsigned};
 
 // ---- the model: a number is a sign and a size of 128 bits, which every exact result here has
 
@@ -16,9 +18,6 @@ struct Exact {
     neg: bool,
     size: u128,
 }
-
-// number, flag, value
-type Answer = (u32, u32, i128);
 
 const MANNERS: [u32; 6] = [0, 1, 2, 3, 4, u32::MAX];
 
@@ -98,32 +97,6 @@ fn shifted(left: bool, a: i128, count: u32, format: Format, manner: u32) -> Answ
 }
 
 // ---- comparing
-
-struct Tally {
-    passed: u64,
-    failed: u64,
-}
-
-impl Tally {
-    fn same(&mut self, found: Answer, wanted: Answer, told: impl Fn() -> String) {
-        if found == wanted {
-            self.passed += 1;
-            return;
-        }
-        self.failed += 1;
-        if self.failed <= 20 {
-            println!("{}: found {found:?}, wanted {wanted:?} (number, flag, value)", told());
-        }
-    }
-}
-
-fn of_signed(a: Signed) -> Answer {
-    (a.number, a.flag, i128::from(a.value))
-}
-
-fn of_unsigned(a: Unsigned) -> Answer {
-    (a.number, a.flag, i128::from(a.value))
-}
 
 const PAIRS: [(&str, OnSigned, OnUnsigned); 5] = [
     ("add", tq_add_signed, tq_add_unsigned),

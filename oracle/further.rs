@@ -2,8 +2,10 @@
 // Built and run by `oracle/program further`.
 
 mod capi;
+mod tally;
 
 use capi::{Signed, Unsigned};
+use tally::{Answer, Tally, of_signed, of_unsigned};
 
 macro_rules! one {
     ($($name:literal $signed:ident $unsigned:ident),*) => {
@@ -57,9 +59,6 @@ struct Exact {
     neg: bool,
     size: u128,
 }
-
-// number, flag, value
-type Answer = (u32, u32, i128);
 
 const MANNERS: [u32; 6] = [0, 1, 2, 3, 4, u32::MAX];
 
@@ -162,38 +161,12 @@ fn mul_add(a: i128, b: i128, c: i128, frac: u32) -> Exact {
 
 // ---- comparing
 
-struct Tally {
-    passed: u64,
-    failed: u64,
-}
-
-impl Tally {
-    fn same(&mut self, found: Answer, wanted: Answer, told: impl Fn() -> String) {
-        if found == wanted {
-            self.passed += 1;
-            return;
-        }
-        self.failed += 1;
-        if self.failed <= 20 {
-            println!("{}: found {found:?}, wanted {wanted:?} (number, flag, value)", told());
-        }
-    }
-}
-
 #[derive(Clone, Copy)]
 struct Case {
     signed: bool,
     width: u32,
     frac: u32,
     manner: u32,
-}
-
-fn of_signed(a: Signed) -> Answer {
-    (a.number, a.flag, i128::from(a.value))
-}
-
-fn of_unsigned(a: Unsigned) -> Answer {
-    (a.number, a.flag, i128::from(a.value))
 }
 
 fn told(name: &str, numbers: &[i128], c: Case) -> String {
@@ -247,7 +220,27 @@ fn triple(t: &mut Tally, x: i128, y: i128, z: i128, c: Case) {
 fn edges(signed: bool, width: u32) -> Vec<i128> {
     let (least, most) = ends(signed, width);
     let half = 1i128 << (width / 2);
-    let near = [least, least + 1, least / 2, -half, -half + 1, -3, -2, -1, 0, 1, 2, 3, half - 1, half, half + 1, most / 2, most / 2 + 1, most - 1, most];
+    let near = [
+        least,
+        least + 1,
+        least / 2,
+        -half,
+        -half + 1,
+        -3,
+        -2,
+        -1,
+        0,
+        1,
+        2,
+        3,
+        half - 1,
+        half,
+        half + 1,
+        most / 2,
+        most / 2 + 1,
+        most - 1,
+        most,
+    ];
     near.into_iter().filter(|a| (least..=most).contains(a)).collect()
 }
 
@@ -257,12 +250,28 @@ fn examples(t: &mut Tally) {
     const MOST: i64 = i32::MAX as i64;
     const LEAST: i64 = i32::MIN as i64;
     let singles = [
-        ("int", 802816, 16, 786432), ("int", -802816, 16, -851968), ("frac", 802816, 16, 16384), ("frac", -802816, 16, 49152),
-        ("ceil", 163840, 16, 196608), ("ceil", MOST, 16, LEAST), ("floor", 163840, 16, 131072), ("floor", LEAST, 32, 0),
-        ("round", 163840, 16, 196608), ("round", -163840, 16, -196608), ("round", MOST, 16, LEAST),
-        ("round_ties_even", 163840, 16, 131072), ("round_ties_even", 229376, 16, 262144), ("round_ties_even", MOST, 16, LEAST),
-        ("abs", -327680, 16, 327680), ("abs", LEAST, 16, LEAST), ("signum", -255590, 16, -65536), ("signum", 0, 16, 0), ("signum", 255590, 16, 65536),
-        ("signum", 1 << 30, 31, LEAST), ("signum", 1 << 30, 32, 0), ("signum", LEAST, 32, 0),
+        ("int", 802816, 16, 786432),
+        ("int", -802816, 16, -851968),
+        ("frac", 802816, 16, 16384),
+        ("frac", -802816, 16, 49152),
+        ("ceil", 163840, 16, 196608),
+        ("ceil", MOST, 16, LEAST),
+        ("floor", 163840, 16, 131072),
+        ("floor", LEAST, 32, 0),
+        ("round", 163840, 16, 196608),
+        ("round", -163840, 16, -196608),
+        ("round", MOST, 16, LEAST),
+        ("round_ties_even", 163840, 16, 131072),
+        ("round_ties_even", 229376, 16, 262144),
+        ("round_ties_even", MOST, 16, LEAST),
+        ("abs", -327680, 16, 327680),
+        ("abs", LEAST, 16, LEAST),
+        ("signum", -255590, 16, -65536),
+        ("signum", 0, 16, 0),
+        ("signum", 255590, 16, 65536),
+        ("signum", 1 << 30, 31, LEAST),
+        ("signum", 1 << 30, 32, 0),
+        ("signum", LEAST, 32, 0),
     ];
     for (name, a, frac, wanted) in singles {
         let on = ONE.iter().find(|row| row.0 == name).unwrap().1;
@@ -270,16 +279,24 @@ fn examples(t: &mut Tally) {
         t.same(found, (0, 0, i128::from(wanted)), || format!("the documentation's {name} of {a}, F = {frac}"));
     }
     let pairs = [
-        ("dist", -65536, 262144, 327680), ("dist", LEAST, MOST, -1), ("mean", 196608, 262144, 229376), ("mean", 196608, -262144, -32768),
-        ("div_euclid", 491520, 131072, 196608), ("div_euclid", LEAST, -65536, LEAST), ("div_euclid", MOST, 16384, -65536),
-        ("rem_euclid", 491520, 131072, 98304), ("rem_euclid", -491520, 131072, 32768),
+        ("dist", -65536, 262144, 327680),
+        ("dist", LEAST, MOST, -1),
+        ("mean", 196608, 262144, 229376),
+        ("mean", 196608, -262144, -32768),
+        ("div_euclid", 491520, 131072, 196608),
+        ("div_euclid", LEAST, -65536, LEAST),
+        ("div_euclid", MOST, 16384, -65536),
+        ("rem_euclid", 491520, 131072, 98304),
+        ("rem_euclid", -491520, 131072, 32768),
     ];
     for (name, a, b, wanted) in pairs {
         let on = TWO.iter().find(|row| row.0 == name).unwrap().1;
         let found = of_signed(unsafe { on(a, b, 32, 16, 2) });
         t.same(found, (0, 0, i128::from(wanted)), || format!("the documentation's {name} of {a} and {b}"));
     }
-    for (a, b, c, wanted) in [(196608, 32768, 262144, 360448), (MOST, 196608, MOST, -4), (262144, 32768, 196608, 327680)] {
+    for (a, b, c, wanted) in
+        [(196608, 32768, 262144, 360448), (MOST, 196608, MOST, -4), (262144, 32768, 196608, 327680)]
+    {
         let found = of_signed(unsafe { tq_mul_add_signed(a, b, c, 32, 16, 2) });
         t.same(found, (0, 0, i128::from(wanted)), || format!("the documentation's mul_add of {a}, {b} and {c}"));
     }
@@ -327,7 +344,8 @@ fn main() {
             }
         }
         // no format
-        for (width, frac) in [(0, 0), (7, 0), (9, 3), (63, 1), (65, 0), (u32::MAX, 0), (8, 9), (64, 65), (16, u32::MAX)] {
+        for (width, frac) in [(0, 0), (7, 0), (9, 3), (63, 1), (65, 0), (u32::MAX, 0), (8, 9), (64, 65), (16, u32::MAX)]
+        {
             for manner in MANNERS {
                 let c = Case { signed, width, frac, manner };
                 single(&mut t, 1, c);
