@@ -76,8 +76,12 @@ def functions(crate, row):
     for word in words(row.split("|")[2]) if row else []:
         see(word in known, f"docs/PROMISES.md: {word} is no public function of {crate.name}")
     for module in re.findall(r"^mod (\w+);", (crate / "src/lib.rt").read_text(), re.M):
-        private = not re.search(r"^pub fn", (crate / f"src/{module}.rt").read_text(), re.M)
-        see(private or f"`{crate.name}::{module}`" in exceptions, f"docs/PROMISES.md: {crate.name}::{module} is no exception")
+        inside = FUNCTION.findall((crate / f"src/{module}.rt").read_text())
+        line = re.search(rf"^\| `{crate.name}::{module}` \|(.*)\|(.*)\|$", exceptions, re.M)
+        for bound in (False, True):
+            own = {name for name, contract in inside if ("requires" in contract) == bound}
+            told = set(re.findall(r"\w+", line.group(1 + bound))) if line else set()
+            see(told == own, f"docs/PROMISES.md: inner functions of {crate.name}::{module}: {sorted(told ^ own)}")
 
 
 def paths(page, text, crate):

@@ -1,4 +1,4 @@
-//! The archive's functions as include/tamqoret.h declares them, once for all programs here; each uses some of them.
+//! Functions of the archive as include/tamqoret.h declares them, for the programs here that share them; convert, float, further and fitting declare what they alone call.
 #![allow(dead_code)]
 
 #[repr(C)]
