@@ -11,7 +11,8 @@ use lib.Dec.{eqb, lit<}
 use lib.Pow.{pow-pos}
 use lib.ListN.{length}
 use borrow.Author.Tests.{eqb-true, eqb-false}
-use Rattle.grammar.specs.Meaning.{natFrom, natOf}
+use Rattle.grammar.specs.Meaning.{natFrom}
+use Rattle.grammar.specs.Rounding.{natOf}
 use Rattle.decimal.specs.Meaning.{byteOf, wholeDigits, fractionBy, fractionDigits, minus, wholeText, fractionText, textOf}
 use Rattle.decimal.specs.Layout.{Ends}
 use Rattle.decimal.specs.Digits.{whole-last, whole-more, whole-ind, fraction-none, fraction-more, ends-start, ends-next, ends-none}

@@ -26,8 +26,9 @@ use Rattle.format.specs.Theorems.{InRange, limit, limit-span, in-fits, settle-f
 use Rattle.format.specs.Fault.{fault-free, width-bounds}
 use Rattle.format.specs.Place.{fits-place}
 use Rattle.digits.specs.Meaning.{digitsOf}
-use Rattle.grammar.specs.Meaning.{digitOf, isDigit, Written, Part, whole, fraction, Seen, nothing, sign, digit, Scan, at, refuse, Error, blank, ifFirst, step, scan, ended, finish, plainScan, natOf, num, den, rawOf}
-use Rattle.grammar.specs.Readers.{isRadix, readOf}
+use Rattle.grammar.specs.Meaning.{digitOf, Written, num, den, rawOf, isRadix, readOf}
+use Rattle.grammar.specs.Automaton.{isDigit, Part, whole, fraction, Seen, nothing, sign, digit, Scan, at, refuse, Error, blank, step, scan, ended, finish, plainScan}
+use Rattle.grammar.specs.Rounding.{natOf}
 use Rattle.grammar.specs.Class.{digit-ten}
 use Rattle.grammar.specs.Accepted.{scan-append}
 use Rattle.grammar.specs.Run.{valuesOf, values-digit, runMore, runLen, partOf, withDigits, seenAfter, scan-run}

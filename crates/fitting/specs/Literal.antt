@@ -14,8 +14,7 @@ use Rattle.format.specs.declared.SignedAnswer.{SignedAnswer}
 use Rattle.format.specs.declared.SignedAnswer.the-variants.{Done as DoneS, Refused as RefusedS}
 use Rattle.format.specs.Meaning.{signed, Outcome, done, refused, unless, faultOf, isWidth, withSign, signedAnswer, numberS, valueS}
 use Rattle.format.specs.Theorems.{InRange, settle-in}
-use Rattle.grammar.specs.Meaning.{Scan, at, refuse, literalRadix, literalScan, rawOf, readScan}
-use Rattle.grammar.specs.Readers.{textLimit, literalOf}
+use Rattle.grammar.specs.Meaning.{Reading, number, unread, literalRadix, literalReading, rawOf, outcomeOf, textLimit, literalOf}
 use Rattle.filter.specs.Range.{sample-sfits}
 use Rattle.fitting.specs.declared.line.Value.{Value}
 use Rattle.fitting.specs.Meaning.{answerOf}
@@ -24,17 +23,17 @@ use Rattle.fitting.specs.Meaning.{answerOf}
 unfoldable pub valueOf : List ℕ → Value
 valueOf line = record { raw = valueS (answerOf line); answer = numberS (answerOf line) }
 
-scan-in : (radix : ℕ) (r : Scan) (x : ℤ) (f : Bool) → readScan Strict signed 16 15 radix r ≡ done x f → InRange signed 16 x
-unfolding readScan
-scan-in radix (refuse n) x f e = let z : _≡_ {A = ℕ} 0 1 = cc in absurd (omega arith)
-scan-in radix (at p q w) x f e = settle-in Strict signed 16 (withSign (w .neg) (rawOf radix 15 w)) x f (lit< tt) e
+reading-in : (radix : ℕ) (r : Reading) (x : ℤ) (f : Bool) → outcomeOf Strict signed 16 15 radix r ≡ done x f → InRange signed 16 x
+unfolding outcomeOf
+reading-in radix (unread n) x f e = let z : _≡_ {A = ℕ} 0 1 = cc in absurd (omega arith)
+reading-in radix (number w) x f e = settle-in Strict signed 16 (withSign (w .neg) (rawOf radix 15 w)) x f (lit< tt) e
 
 pub literal-in : (line : List ℕ) (x : ℤ) (f : Bool) → literalOf signed 16 15 line ≡ done x f → InRange signed 16 x
 unfolding literalOf unless faultOf isWidth
 literal-in line x f e = go (leb (length line) textLimit) e
   where
-    go : (t : Bool) → cond t (readScan Strict signed 16 15 (literalRadix signed line) (literalScan signed line)) (refused 4) ≡ done x f → InRange signed 16 x
-    go true e = scan-in (literalRadix signed line) (literalScan signed line) x f e
+    go : (t : Bool) → cond t (outcomeOf Strict signed 16 15 (literalRadix signed line) (literalReading signed line)) (refused 4) ≡ done x f → InRange signed 16 x
+    go true e = reading-in (literalRadix signed line) (literalReading signed line) x f e
     go false e = let z : _≡_ {A = ℕ} 0 1 = cc in absurd (omega arith)
 
 answer-done : (o : Outcome) (x : ℤ) (f : Bool) → signedAnswer o ≡ DoneS x f → o ≡ done x f

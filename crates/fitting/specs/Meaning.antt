@@ -7,7 +7,7 @@ use lib.IntN.{ℤ}
 use lib.ListN.{length, drop}
 use Rattle.format.specs.declared.SignedAnswer.{SignedAnswer}
 use Rattle.format.specs.Meaning.{signed, signedAnswer, numberS, valueS}
-use Rattle.grammar.specs.Readers.{literalOf}
+use Rattle.grammar.specs.Meaning.{literalOf}
 use Rattle.filter.specs.Meaning.{mostTaps}
 use Rattle.fitting.specs.declared.FileAnswer.{FileAnswer}
 use Rattle.fitting.specs.declared.FileAnswer.the-variants.{Done, Refused, Line}

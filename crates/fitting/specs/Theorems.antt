@@ -11,7 +11,7 @@ use lib.IntN.{pos}
 use lib.ListN.{length, getD}
 use borrow.Author.Tests.{ne-eqb}
 use Rattle.format.specs.Meaning.{signed, Outcome, done, refused, signedAnswer, numberS, valueS}
-use Rattle.grammar.specs.Readers.{literalOf}
+use Rattle.grammar.specs.Meaning.{literalOf}
 use Rattle.grammar.specs.Theorems.{Early, width, frac, base, size, literal-early}
 use Rattle.fitting.specs.declared.FileAnswer.the-variants.{Line}
 use Rattle.fitting.specs.Meaning.{lineFeed, onto, linesOf, isValue, ValueLine, valueLine, valuesFrom, valuesOf, answerOf, rawAt, numberAt, judge, accepted}

@@ -6,12 +6,11 @@ use mathlib.Core.List.{List, [], _∷_, _++_, List·Memᴰ, List·Memᴰ·not-ni
 use Prim.Native.Nat.{ℕ, _+_, _*_, _≤_, _<_}
 use native.Mathlib.Omega.{arith}
 use lib.Dec.{T, leb, eqb, leb→le}
-use lib.ListN.{length, length-append}
+use lib.ListN.{length, length-append, getD}
 use borrow.Author.Tests.{leb-true, ltb-true, eqb-true}
 use Rattle.format.specs.Meaning.{Sign}
-use Rattle.grammar.specs.Meaning.{Sep, Skip, Error, digitOf, isDigit, isSign, isMark, baseOf, Written, Part, whole, fraction, exponent, Seen, nothing, sign, digit, Scan, at, refuse, blank, withDigit, expLimit, onExpDigit, step, scan, ended, finish, plainScan, prefixMark, prefixRadix, afterPrefix, literalMinus, literalBody, literalRadix, literalScan}
-use Rattle.grammar.specs.Step.{isBitMark, onSign, onPoint, invalid, onUnderscore, onMark, onOther, step-by}
-use Rattle.grammar.specs.Readers.{isRadix}
+use Rattle.grammar.specs.Meaning.{digitOf, isSign, isMark, Written, Reading, number, unread, expLimit, prefixMark, prefixRadix, afterPrefix, literalMinus, literalBody, literalRadix, isBitMark, isRadix}
+use Rattle.grammar.specs.Automaton.{Sep, Skip, Error, isDigit, baseOf, Part, whole, fraction, exponent, Seen, nothing, sign, digit, Scan, at, refuse, blank, withDigit, onExpDigit, step, scan, ended, finish, plainScan, literalScan, onSign, onPoint, invalid, onUnderscore, onMark, onOther, readingOf}
 
 -- the exponent: 0 until a digit of it was read, then within its range
 unfoldable pub ExpIs : Part → Seen → Bool → ℕ → Type 0
@@ -27,12 +26,18 @@ TenIs whole base e = e ≡ 0
 TenIs fraction base e = e ≡ 0
 TenIs exponent base e = base ≡ 10
 
+-- what the exponent scales by: 1 where there is none, then 2 or the radix
+unfoldable pub BaseIs : ℕ → Part → ℕ → Type 0
+BaseIs radix whole base = base ≡ 1
+BaseIs radix fraction base = base ≡ 1
+BaseIs radix exponent base = (base ≡ 2) ⊎ (base ≡ radix)
+
 -- A number of the radix: its digits are below the radix, no more of them stand after the point than there are, what the exponent scales by is
 -- the radix or 2 (1 if there is no mark), and the exponent is in its range.
 pub record Sound (radix : ℕ) (p : Part) (q : Seen) (x : Written) : Type 0 where
   pub below : (d : ℕ) → List·Memᴰ d (x .digits) → d < radix
   pub within : x .after ≤ length (x .digits)
-  pub base-is : (x .base ≡ 1) ⊎ (x .base ≡ 2) ⊎ (x .base ≡ radix)
+  pub base-is : BaseIs radix p (x .base)
   pub exp-is : ExpIs p q (x .down) (x .exp)
   pub ten-is : radix ≡ 10 → TenIs p (x .base) (x .exp)
 
@@ -41,7 +46,7 @@ pub data Ends (radix : ℕ) : Scan → Type 0 where
   ends-not : {n : ℕ} → 11 ≤ n → n ≤ 19 → Ends radix (refuse n)
 
 -- a test's two outcomes
-by-test : {A : Type 0} (P : A → Type 0) (t : Bool) {a b : A} → (t ≡ true → P a) → (t ≡ false → P b) → P (cond t a b)
+pub by-test : {A : Type 0} (P : A → Type 0) (t : Bool) {a b : A} → (t ≡ true → P a) → (t ≡ false → P b) → P (cond t a b)
 by-test P true f g = f refl
 by-test P false f g = g refl
 
@@ -60,8 +65,8 @@ module _ (radix : ℕ) where
   stop n l h = ends-not (leb→le 11 n l) (leb→le n 19 h)
 
   sound-blank : (neg : Bool) (q : Seen) → Sound radix whole q (blank neg)
-  unfolding ExpIs
-  sound-blank neg q = record { below = λ d m. absurd (List·Memᴰ·not-nil m); within = omega arith; base-is = inl refl; exp-is = refl; ten-is = λ r. refl }
+  unfolding ExpIs BaseIs
+  sound-blank neg q = record { below = λ d m. absurd (List·Memᴰ·not-nil m); within = omega arith; base-is = refl; exp-is = refl; ten-is = λ r. refl }
 
   -- one more digit of the number
   sound-digit : (p : Part) (x : Written) (d places : ℕ) (q : Seen) → d < radix → places ≤ 1 → Sound radix p q x → ExpIs p digit (x .down) (x .exp)
@@ -90,7 +95,7 @@ module _ (radix : ℕ) where
   on-sign minus exponent digit x s = stop 12 tt tt
 
   on-point : (p : Part) (q : Seen) (x : Written) → Sound radix p q x → Ends radix (onPoint p x)
-  unfolding onPoint ExpIs
+  unfolding onPoint ExpIs BaseIs
   on-point whole q x s = ends-at (record { below = s .below; within = s .within; base-is = s .base-is; exp-is = s .exp-is; ten-is = s .ten-is })
   on-point fraction q x s = stop 15 tt tt
   on-point exponent q x s = stop 16 tt tt
@@ -108,9 +113,9 @@ module _ (radix : ℕ) where
   on-underscore Skip p digit x s = ends-at s
 
   on-mark : (b : ℕ) (p : Part) (q : Seen) (x : Written) → isMark radix b ≡ true → Sound radix p q x → Ends radix (onMark (baseOf radix b) p x)
-  unfolding onMark ExpIs
-  on-mark b whole q x m s = ends-at (record { below = s .below; within = s .within; base-is = by-test (λ (v : ℕ). (v ≡ 1) ⊎ (v ≡ 2) ⊎ (v ≡ radix)) (isBitMark b) (λ t. inr (inl refl)) (λ t. inr (inr refl)); exp-is = s .exp-is; ten-is = λ r. ten-base radix b r m })
-  on-mark b fraction q x m s = ends-at (record { below = s .below; within = s .within; base-is = by-test (λ (v : ℕ). (v ≡ 1) ⊎ (v ≡ 2) ⊎ (v ≡ radix)) (isBitMark b) (λ t. inr (inl refl)) (λ t. inr (inr refl)); exp-is = s .exp-is; ten-is = λ r. ten-base radix b r m })
+  unfolding onMark ExpIs BaseIs
+  on-mark b whole q x m s = ends-at (record { below = s .below; within = s .within; base-is = by-test (λ (v : ℕ). (v ≡ 2) ⊎ (v ≡ radix)) (isBitMark b) (λ t. inl refl) (λ t. inr refl); exp-is = s .exp-is; ten-is = λ r. ten-base radix b r m })
+  on-mark b fraction q x m s = ends-at (record { below = s .below; within = s .within; base-is = by-test (λ (v : ℕ). (v ≡ 2) ⊎ (v ≡ radix)) (isBitMark b) (λ t. inl refl) (λ t. inr refl); exp-is = s .exp-is; ten-is = λ r. ten-base radix b r m })
   on-mark b exponent q x m s = stop 18 tt tt
 
   on-exp-digit : (d : ℕ) (q : Seen) (x : Written) → Sound radix exponent q x → Ends radix (onExpDigit d x)
@@ -127,11 +132,12 @@ module _ (radix : ℕ) where
   on-other b exponent q x s = by-test (Ends radix) (isDigit 10 b) (λ t. on-exp-digit (digitOf b) q x s) (λ t. on-invalid exponent)
 
   on-byte : (k : Sep) (b : ℕ) (p : Part) (q : Seen) (x : Written) → Sound radix p q x → Ends radix (step k radix b p q x)
-  on-byte k b p q x s = rw (step-by k radix b p q x) (
+  unfolding step
+  on-byte k b p q x s =
       by-test (Ends radix) (isSign b) (λ t. on-sign (eqb b 45) p q x s) (λ t.
       by-test (Ends radix) (eqb b 46) (λ t. on-point p q x s) (λ t.
       by-test (Ends radix) (eqb b 95) (λ t. on-underscore k p q x s) (λ t.
-      by-test (Ends radix) (isMark radix b) (λ t. on-mark b p q x t s) (λ t. on-other b p q x s)))))
+      by-test (Ends radix) (isMark radix b) (λ t. on-mark b p q x t s) (λ t. on-other b p q x s))))
 
   on-bytes : (k : Sep) (t : List ℕ) {r : Scan} → Ends radix r → Ends radix (scan k radix t r)
   unfolding scan
@@ -163,6 +169,35 @@ literal-ends s t =
     let radix = literalRadix s t in
     on-finish radix (on-bytes radix Skip (afterPrefix (literalBody s t)) (ends-at (sound-blank radix (literalMinus s t) sign)))
 
+-- ---- the same of a reading: where the scan stood at the end matters no more
+pub record Numbered (radix : ℕ) (x : Written) : Type 0 where
+  pub part : Part
+  pub seen : Seen
+  pub sound : Sound radix part seen x
+
+pub data Says (radix : ℕ) : Reading → Type 0 where
+  says : {x : Written} → Numbered radix x → Says radix (number x)
+  says-not : {n : ℕ} → 11 ≤ n → n ≤ 19 → Says radix (unread n)
+
+pub ends-says : {radix : ℕ} {r : Scan} → Ends radix r → Says radix (readingOf r)
+unfolding readingOf
+ends-says (ends-at {p} {q} s) = says (record { part = p; seen = q; sound = s })
+ends-says (ends-not l h) = says-not l h
+
+pub says-numbered : {radix : ℕ} {x : Written} → Says radix (number x) → Numbered radix x
+says-numbered (says s) = s
+
+-- a number that is read is where a scan ended
+pub record At (r : Scan) (x : Written) : Type 0 where
+  pub part : Part
+  pub seen : Seen
+  pub is : r ≡ at part seen x
+
+pub number-at : (r : Scan) {x : Written} → readingOf r ≡ number x → At r x
+unfolding readingOf
+number-at (at p q y) {x} e = let same : y ≡ x = cc in record { part = p; seen = q; is = ap (at p q) same }
+number-at (refuse n) e = let z : _≡_ {A = ℕ} 0 1 = cc in absurd (omega arith)
+
 -- what an outcome of a scan tells
 pub ends-sound : {radix : ℕ} {p : Part} {q : Seen} {x : Written} → Ends radix (at p q x) → Sound radix p q x
 ends-sound (ends-at s) = s
@@ -183,16 +218,25 @@ radix-two r h = go (eqb r 2) (eqb r 8) (eqb r 10) (eqb r 16) refl refl refl refl
     go false false false false e f g h t = absurd (false≢true t)
 
 -- a literal's radix is one
-pub prefix-radix : (t : List ℕ) → isRadix (prefixRadix t) ≡ true
+pub prefix-legal : (t : List ℕ) → isRadix (prefixRadix t) ≡ true
 unfolding isRadix prefixRadix prefixMark
-prefix-radix [] = refl
-prefix-radix (a ∷ []) = refl
-prefix-radix (a ∷ b ∷ t) =
+prefix-legal t =
     let P : ℕ → Type 0 = λ r. isRadix r ≡ true in
-    by-test P (eqb a 48) (λ _. by-test P (eqb b 98) (λ _. refl) (λ _. by-test P (eqb b 111) (λ _. refl) (λ _. by-test P (eqb b 120) (λ _. refl) (λ _. refl)))) (λ _. refl)
+    let b = getD t 1 0 in
+    by-test P (eqb (getD t 0 0) 48) (λ _. by-test P (eqb b 98) (λ _. refl) (λ _. by-test P (eqb b 111) (λ _. refl) (λ _. by-test P (eqb b 120) (λ _. refl) (λ _. refl)))) (λ _. refl)
+
+pub sound-bases : {radix : ℕ} {p : Part} {q : Seen} {x : Written} → Sound radix p q x → (x .base ≡ 1) ⊎ (x .base ≡ 2) ⊎ (x .base ≡ radix)
+unfolding BaseIs
+sound-bases {radix} {p} {q} {x} s = go p (s .base-is)
+  where
+    go : (p : Part) → BaseIs radix p (x .base) → (x .base ≡ 1) ⊎ (x .base ≡ 2) ⊎ (x .base ≡ radix)
+    go whole e = inl e
+    go fraction e = inl e
+    go exponent (inl e) = inr (inl e)
+    go exponent (inr e) = inr (inr e)
 
 pub sound-base : {radix : ℕ} {p : Part} {q : Seen} {x : Written} → 0 < radix → Sound radix p q x → 0 < x .base
-sound-base {radix} {p} {q} {x} h s = go (s .base-is)
+sound-base {radix} {p} {q} {x} h s = go (sound-bases s)
   where
     go : (x .base ≡ 1) ⊎ (x .base ≡ 2) ⊎ (x .base ≡ radix) → 0 < x .base
     go (inl e) = omega arith

@@ -9,8 +9,10 @@ use lib.ListN.{length, length-append, replicate}
 use borrow.Author.Tests.{eqb-false, ne-eqb, lt-ltb}
 use Rattle.format.specs.declared.Manner.{Manner}
 use Rattle.format.specs.Meaning.{Sign, signed, unsigned, settle, withSign}
-use Rattle.grammar.specs.Meaning.{Sep, digitOf, isMark, Written, fraction, Seen, digit, Scan, at, withDigit, step, scan, ended, finish, prefixMark, prefixRadix, dropUnderscores, afterPrefix, literalMinus, literalBody, rawOf, readScan}
+use Rattle.grammar.specs.Meaning.{digitOf, isMark, Written, prefixMark, prefixRadix, dropUnderscores, afterPrefix, literalMinus, literalBody, rawOf}
+use Rattle.grammar.specs.Automaton.{Sep, fraction, Seen, digit, Scan, at, withDigit, step, scan, ended, finish, readScan, onOther}
 use Rattle.grammar.specs.Accepted.{Ends, ends-sound, sound-base, finish-at, scan-append}
+use Rattle.grammar.specs.Literal.{short-prefix}
 use Rattle.grammar.specs.Rounding.{zero-more}
 
 abbrev pub zeros : ℕ → List ℕ
@@ -18,7 +20,7 @@ zeros n = replicate n 48
 
 module _ (j : Sep) (radix : ℕ) (r : 0 < radix) where
   zero-step : (q : Seen) (x : Written) → step j radix 48 fraction q x ≡ at fraction digit (withDigit x 0 1)
-  unfolding step isMark digitOf
+  unfolding step onOther isMark digitOf
   zero-step q x = rw (lt-ltb 0 radix r)
 
   zeros-read : (k : Manner) (s : Sign) (w f n : ℕ) (q : Seen) (x : Written) → 0 < x .base → (length (x .digits) ≡ 0 → ⊥)
@@ -46,21 +48,20 @@ module _ (j : Sep) (radix : ℕ) (r : 0 < radix) where
 -- zeros at the end change nothing in front: the sign, the prefix and the `_` after it
 pub minus-zeros : (s : Sign) (t : List ℕ) (n : ℕ) → literalMinus s (t ++ zeros n) ≡ literalMinus s t
 unfolding literalMinus
-minus-zeros s [] zero = refl
+minus-zeros signed [] zero = refl
 minus-zeros signed [] (suc n) = refl
-minus-zeros unsigned [] (suc n) = refl
 minus-zeros signed (b ∷ t) n = refl
-minus-zeros unsigned (b ∷ t) n = refl
+minus-zeros unsigned t n = refl
 
 pub body-zeros : (s : Sign) (t : List ℕ) (n : ℕ) → literalBody s (t ++ zeros n) ≡ literalBody s t ++ zeros n
 unfolding literalMinus
-body-zeros s [] n = rw (minus-zeros s [] n)
+body-zeros signed [] n = rw (minus-zeros signed [] n)
 body-zeros signed (b ∷ t) n = go (eqb b 45)
   where
     go : (m : Bool) → cond m (t ++ zeros n) (b ∷ t ++ zeros n) ≡ cond m t (b ∷ t) ++ zeros n
     go true = refl
     go false = refl
-body-zeros unsigned (b ∷ t) n = refl
+body-zeros unsigned t n = refl
 
 pub prefix-zeros : (t : List ℕ) (n : ℕ) → prefixRadix (t ++ zeros n) ≡ prefixRadix t
 unfolding prefixRadix prefixMark
@@ -68,11 +69,7 @@ prefix-zeros [] zero = refl
 prefix-zeros [] (suc zero) = refl
 prefix-zeros [] (suc (suc n)) = refl
 prefix-zeros (a ∷ []) zero = refl
-prefix-zeros (a ∷ []) (suc n) = go (eqb a 48)
-  where
-    go : (m : Bool) → _≡_ {A = ℕ} (cond m 10 10) 10
-    go true = refl
-    go false = refl
+prefix-zeros (a ∷ []) (suc n) = refl
 prefix-zeros (a ∷ b ∷ t) n = refl
 
 underscores-zeros : (t : List ℕ) (n : ℕ) → dropUnderscores (t ++ zeros n) ≡ dropUnderscores t ++ zeros n
@@ -87,10 +84,9 @@ underscores-zeros (b ∷ t) n = go (eqb b 95) (underscores-zeros t n)
     go false e = refl
 
 pub after-zeros : (t : List ℕ) (n : ℕ) → afterPrefix (t ++ zeros n) ≡ afterPrefix t ++ zeros n
-unfolding prefixRadix
-after-zeros [] n = rw (prefix-zeros [] n)
-after-zeros (a ∷ []) n = rw (prefix-zeros (a ∷ []) n)
-after-zeros (a ∷ b ∷ t) n = go (eqb (prefixRadix (a ∷ b ∷ t)) 10)
+after-zeros [] n = rw (prefix-zeros [] n, sym (short-prefix [] (omega arith)))
+after-zeros (a ∷ []) n = rw (prefix-zeros (a ∷ []) n, sym (short-prefix (a ∷ []) (omega arith)))
+after-zeros (a ∷ b ∷ t) n = rw (prefix-zeros (a ∷ b ∷ t) n) (go (eqb (prefixRadix (a ∷ b ∷ t)) 10))
   where
     go : (m : Bool) → cond m (a ∷ b ∷ t ++ zeros n) (dropUnderscores (t ++ zeros n)) ≡ cond m (a ∷ b ∷ t) (dropUnderscores t) ++ zeros n
     go true = refl

@@ -1,6 +1,6 @@
 -- Document 01's cases of reading, and docs/GRAMMAR.md's telling texts, computed from the meaning: a row is a format, a text and what it gives.
 -- A format is named as in document 01: i4f4 is signed, W = 8, F = 4. Assumes nothing.
-use mathlib.Core.Path.{_≡_, refl, _∙_}
+use mathlib.Core.Path.{_≡_, refl, ap₂, _∙_}
 use mathlib.Core.Bool.{Bool, true, false, cond}
 use mathlib.Core.List.{List, [], _∷_, _++_, map}
 use Prim.Native.Nat.{ℕ, zero, suc, _+_, _≤_}
@@ -14,8 +14,9 @@ use Rattle.format.specs.declared.Manner.{Manner}
 use Rattle.format.specs.declared.Manner.the-variants.{Strict, Saturating, Wrapping, Overflowing}
 use Rattle.format.specs.Meaning.{Sign, signed, unsigned, Outcome, done, refused, isWidth, faultOf, lowest, highest, fits, hold, wrap, settle, unless}
 use Rattle.format.specs.Meaning.{withSign}
-use Rattle.grammar.specs.Meaning.{digitOf, isDigit, isSign, isMark, baseOf, onExpDigit, step, scan, ended, finish, plainScan, prefixMark, prefixRadix, dropUnderscores, literalMinus, literalScan, natFrom, num, den, rawOf, readScan, Written, exponent, digit, at, underscore, ifFirst}
-use Rattle.grammar.specs.Readers.{isRadix, readOf, literalOf, textLimit}
+use Rattle.grammar.specs.Meaning.{digitOf, isSign, isMark, Written, number as numberRead, exponentFrom, digitsFrom, plainReading, literalMinus, prefixMark, prefixRadix, dropUnderscores, literalReading, natFrom, num, den, rawOf, outcomeOf, isRadix, textLimit, readOf, literalOf}
+use Rattle.grammar.specs.Automaton.{isDigit, baseOf, onSign, onPoint, onUnderscore, onMark, onExpDigit, onOther, step, scan, ended, finish, plainScan, literalScan, readingOf, readScan}
+use Rattle.grammar.specs.Agrees.{plain-scanned, scanOf, literalScanOf, read-scan-of, literal-scan-of}
 use Rattle.grammar.specs.Rounding.{huge-over, huge-wraps, huge-under, nothing-written}
 use Rattle.grammar.specs.Theorems.{Taken, read-as, den-positive}
 
@@ -64,25 +65,30 @@ u32f32 = format unsigned 64 32
 abbrev u0f64 : Format
 u0f64 = format unsigned 64 64
 
--- the plain reader in each manner, told the radix
-abbrev reads : Manner → ℕ → Format → String → Outcome
-reads k radix g t = readOf k (g .kind) (g .width) (g .frac) radix (bytes t)
+-- what is asked: the plain reader in a manner, or the literal reader
+data Asked : Type 0 where
+  plain : Manner → Sign → ℕ → ℕ → ℕ → List ℕ → Asked
+  literally : Sign → ℕ → ℕ → List ℕ → Asked
 
-abbrev strict : ℕ → Format → String → Outcome
+-- the plain reader in each manner, told the radix
+abbrev reads : Manner → ℕ → Format → String → Asked
+reads k radix g t = plain k (g .kind) (g .width) (g .frac) radix (bytes t)
+
+abbrev strict : ℕ → Format → String → Asked
 strict = reads Strict
 
-abbrev saturating : ℕ → Format → String → Outcome
+abbrev saturating : ℕ → Format → String → Asked
 saturating = reads Saturating
 
-abbrev wrapping : ℕ → Format → String → Outcome
+abbrev wrapping : ℕ → Format → String → Asked
 wrapping = reads Wrapping
 
-abbrev overflowing : ℕ → Format → String → Outcome
+abbrev overflowing : ℕ → Format → String → Asked
 overflowing = reads Overflowing
 
 -- the literal reader
-abbrev literal : Format → String → Outcome
-literal g t = literalOf (g .kind) (g .width) (g .frac) (bytes t)
+abbrev literal : Format → String → Asked
+literal g t = literally (g .kind) (g .width) (g .frac) (bytes t)
 
 -- what comes out, with the flag clear: a raw, or one below 0
 abbrev raw : ℕ → Outcome
@@ -91,14 +97,18 @@ raw n = done (pos n) false
 abbrev minus : ℕ → Outcome
 minus n = done (negℤ (pos n)) false
 
--- A row: what a reader computes, and what is written. To unfold `got` is to unfold the whole meaning.
+-- A row: what is asked, and what the meaning answers. To unfold `answer` is to unfold the whole meaning.
 infix 80 _gives_
 data Case : Type 0 where
-  _gives_ : Outcome → Outcome → Case
+  _gives_ : Asked → Outcome → Case
 
-got : Case → Outcome
-unfolding nearestEven nearestBy bytes isWidth faultOf lowest highest fits hold wrap settle unless withSign digitOf isMark underscore ifFirst onExpDigit step scan ended finish plainScan prefixMark prefixRadix dropUnderscores literalMinus literalScan natFrom num den rawOf readScan isRadix readOf literalOf
-got (a gives b) = a
+answer : Asked → Outcome
+unfolding nearestEven nearestBy bytes isWidth faultOf lowest highest fits hold wrap settle unless withSign digitOf isMark exponentFrom digitsFrom plainReading prefixMark prefixRadix dropUnderscores literalMinus literalReading natFrom num den rawOf outcomeOf isRadix readOf literalOf
+answer (plain k s w f radix t) = readOf k s w f radix t
+answer (literally s w f t) = literalOf s w f t
+
+abbrev got : Case → Outcome
+got (a gives b) = answer a
 
 abbrev want : Case → Outcome
 want (a gives b) = b
@@ -106,6 +116,27 @@ want (a gives b) = b
 -- every row of a table is right
 abbrev Right : List Case → Type 0
 Right rows = map got rows ≡ map want rows
+
+-- The automaton's answer is the same and takes fewer steps to compute. To unfold `computed` is to unfold all of it.
+computed : Asked → Outcome
+unfolding nearestEven nearestBy bytes isWidth faultOf lowest highest fits hold wrap settle unless withSign digitOf isMark onSign onPoint onUnderscore onMark onExpDigit onOther step scan ended finish plainScan prefixMark prefixRadix dropUnderscores literalMinus literalScan natFrom num den rawOf readScan isRadix scanOf literalScanOf
+computed (plain k s w f radix t) = scanOf k s w f radix t
+computed (literally s w f t) = literalScanOf s w f t
+
+abbrev found : Case → Outcome
+found (a gives b) = computed a
+
+same : (a : Asked) → answer a ≡ computed a
+unfolding answer computed
+same (plain k s w f radix t) = read-scan-of k s w f radix t
+same (literally s w f t) = literal-scan-of s w f t
+
+same-rows : (rows : List Case) → map got rows ≡ map found rows
+same-rows [] = refl
+same-rows ((a gives b) ∷ rows) = ap₂ (λ (o : Outcome) (os : List Outcome). o ∷ os) (same a) (same-rows rows)
+
+right : (rows : List Case) → map found rows ≡ map want rows → Right rows
+right rows e = same-rows rows ∙ e
 
 -- ---- document 01, "Cases", in its order
 document : List Case
@@ -141,8 +172,8 @@ document =
     ∷ []
 
 document-right : Right document
-unfolding document got
-document-right = refl
+unfolding document computed
+document-right = right document refl
 
 -- ---- document 01, "Wrong answers that must be ruled out", where they concern reading
 ruled-out : List Case
@@ -174,8 +205,8 @@ ruled-out =
     ∷ []
 
 ruled-out-right : Right ruled-out
-unfolding ruled-out got
-ruled-out-right = refl
+unfolding ruled-out computed
+ruled-out-right = right ruled-out refl
 
 -- ---- the refusals 1, 2, 3, 4 go in this order, and before those of the text (120 is `x`)
 faults : List Case
@@ -184,19 +215,19 @@ faults =
     ∷ strict 3 (format signed 8 9) "x" gives refused 2
     ∷ strict 3 (format signed 8 8) "x" gives refused 3
     ∷ strict 10 (format signed 8 8) "x" gives refused 13
-    ∷ readOf Strict signed 8 8 3 (replicate 4097 120) gives refused 3
-    ∷ readOf Strict signed 8 8 10 (replicate 4097 120) gives refused 4
-    ∷ readOf Strict signed 8 8 10 (replicate 4096 120) gives refused 13
+    ∷ plain Strict signed 8 8 3 (replicate 4097 120) gives refused 3
+    ∷ plain Strict signed 8 8 10 (replicate 4097 120) gives refused 4
+    ∷ plain Strict signed 8 8 10 (replicate 4096 120) gives refused 13
     ∷ literal (format unsigned 7 9) "x" gives refused 1
     ∷ literal (format unsigned 8 9) "x" gives refused 2
-    ∷ literalOf unsigned 8 8 (replicate 4097 120) gives refused 4
-    ∷ literalOf unsigned 8 8 (replicate 4096 120) gives refused 13
+    ∷ literally unsigned 8 8 (replicate 4097 120) gives refused 4
+    ∷ literally unsigned 8 8 (replicate 4096 120) gives refused 13
     ∷ literal (format unsigned 8 8) "x" gives refused 13
     ∷ []
 
 faults-right : Right faults
-unfolding faults got
-faults-right = refl
+unfolding faults computed
+faults-right = right faults refl
 
 -- ---- the radixes, and docs/GRAMMAR.md, "Classes of bytes": of all 256, which are of a class
 from : ℕ → ℕ → List ℕ
@@ -224,7 +255,7 @@ classes-right : (picked isRadix (from 0 256) ≡ 2 ∷ 8 ∷ 10 ∷ 16 ∷ [])
     × (map digitOf (bytes "ABCDEF") ≡ from 10 6)
     × (map (baseOf 16) (bytes "@Pp") ≡ 16 ∷ 2 ∷ 2 ∷ [])
     × (map (baseOf 8) (bytes "@EPep") ≡ 8 ∷ 8 ∷ 2 ∷ 8 ∷ 2 ∷ [])
-unfolding from picked got
+unfolding from picked answer
 classes-right = (refl, refl, refl, refl, refl, refl, refl, refl, refl, refl, refl, refl, refl, refl)
 
 -- ---- docs/GRAMMAR.md, "The automaton": a text for each state, and the answer when a sign, a point, `_`, a mark, a digit or another byte
@@ -258,7 +289,7 @@ automaton-right : (plainAfter "" ≡ 11 ∷ 11 ∷ 13 ∷ 11 ∷ 0 ∷ 13 ∷ []
     × (literalAfter "1e" ≡ 17 ∷ 16 ∷ 14 ∷ 18 ∷ 0 ∷ 16 ∷ [])
     × (literalAfter "1e+" ≡ 12 ∷ 16 ∷ 14 ∷ 18 ∷ 0 ∷ 16 ∷ [])
     × (literalAfter "1e1" ≡ 12 ∷ 16 ∷ 0 ∷ 18 ∷ 0 ∷ 16 ∷ [])
-unfolding number answers got
+unfolding number answers answer
 automaton-right = (refl, refl, refl, refl, refl, refl, refl, refl, refl, refl, refl, refl, refl, refl, refl, refl)
 
 -- ---- docs/GRAMMAR.md, "Telling texts": the plain reader
@@ -316,8 +347,8 @@ telling =
     ∷ []
 
 telling-right : Right telling
-unfolding telling got
-telling-right = refl
+unfolding telling computed
+telling-right = right telling refl
 
 -- ---- and the literal reader
 telling-literals : List Case
@@ -348,8 +379,8 @@ telling-literals =
     ∷ []
 
 telling-literals-right : Right telling-literals
-unfolding telling-literals got
-telling-literals-right = refl
+unfolding telling-literals computed
+telling-literals-right = right telling-literals refl
 
 -- ---- texts that read alike: the point and the exponent, zeros at the end, a literal and the plain text that it stands for
 alike : List Case
@@ -364,27 +395,27 @@ alike =
     ∷ []
 
 alike-right : Right alike
-unfolding alike got
-alike-right = refl
+unfolding alike computed
+alike-right = right alike refl
 
 -- ---- Telling texts whose numbers are not to be written out: the scan is computed, and the answer follows from how far the exponent goes.
 abbrev far : ℕ → Bool → ℕ → Written
 far d down e = record { neg = false; digits = d ∷ []; after = 0; base = 10; down = down; exp = e }
 
-taken : (t : String) (x : Written) → length (bytes t) ≤ textLimit → plainScan 10 (bytes t) ≡ at exponent digit x → Taken 8 4 10 (bytes t) x
+taken : (t : String) (x : Written) → length (bytes t) ≤ textLimit → readingOf (plainScan 10 (bytes t)) ≡ numberRead x → Taken 8 4 10 (bytes t) x
 unfolding faultOf isWidth isRadix
-taken t x h e = record { format = refl; legal = refl; short = h; part = exponent; seen = digit; scanned = e }
+taken t x h e = record { format = refl; legal = refl; short = h; scanned = plain-scanned 10 (bytes t) ∙ e }
 
 largest : Taken 8 4 10 (bytes "1e2147483647") (far 1 false 2147483647)
-unfolding got
+unfolding computed readingOf
 largest = taken "1e2147483647" (far 1 false 2147483647) (lit≤ tt) refl
 
 largest-zero : Taken 8 4 10 (bytes "0e2147483647") (far 0 false 2147483647)
-unfolding got
+unfolding computed readingOf
 largest-zero = taken "0e2147483647" (far 0 false 2147483647) (lit≤ tt) refl
 
 smallest : Taken 8 4 10 (bytes "1e-2147483648") (far 1 true 2147483648)
-unfolding got
+unfolding computed readingOf
 smallest = taken "1e-2147483648" (far 1 true 2147483648) (lit≤ tt) refl
 
 -- a magnitude of 0 fits
@@ -392,17 +423,18 @@ nothing : {m : ℕ} → m ≡ 0 → settle Strict signed 8 (withSign false m) �
 unfolding settle fits lowest highest withSign
 nothing e = rw e
 
-largest-strict : strict 10 i4f4 "1e2147483647" ≡ refused 10
-unfolding natFrom
+largest-strict : answer (strict 10 i4f4 "1e2147483647") ≡ refused 10
+unfolding answer natFrom
 largest-strict = read-as largest Strict signed ∙ huge-over signed 8 10 4 (far 1 false 2147483647) (lit≤ tt) (lit≤ tt) refl refl (lit≤ tt) (lit≤ tt)
 
-largest-wrapping : wrapping 10 i4f4 "1e2147483647" ≡ raw 0
+largest-wrapping : answer (wrapping 10 i4f4 "1e2147483647") ≡ raw 0
+unfolding answer
 largest-wrapping = read-as largest Wrapping signed ∙ huge-wraps signed 8 10 5 4 (far 1 false 2147483647) (lit≤ tt) (lit≤ tt) refl refl refl (lit≤ tt)
 
-largest-zero-strict : strict 10 i4f4 "0e2147483647" ≡ raw 0
-unfolding natFrom
+largest-zero-strict : answer (strict 10 i4f4 "0e2147483647") ≡ raw 0
+unfolding answer natFrom
 largest-zero-strict = read-as largest-zero Strict signed ∙ nothing (nothing-written 10 4 (far 0 false 2147483647) (den-positive largest-zero) refl)
 
-smallest-strict : strict 10 i4f4 "1e-2147483648" ≡ raw 0
-unfolding natFrom
+smallest-strict : answer (strict 10 i4f4 "1e-2147483648") ≡ raw 0
+unfolding answer natFrom
 smallest-strict = read-as smallest Strict signed ∙ nothing (huge-under 10 4 1 (far 1 true 2147483648) (lit≤ tt) (lit≤ tt) refl (lit≤ tt) (lit≤ tt))

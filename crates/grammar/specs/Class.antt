@@ -9,8 +9,8 @@ use lib.Dec.{leb, ltb, eqb}
 use borrow.Author.Tests.{le-leb, lt-leb, lt-ltb, le-ltb, eq-eqb, ne-eqb, ltb-true, eqb-true, leb-true, leb-false}
 use Rattle.grammar.specs.declared.byte.Class.{Class}
 use Rattle.grammar.specs.declared.byte.Class.the-variants.{Sign, Point, Underscore, Mark, Other}
-use Rattle.grammar.specs.Meaning.{digitOf, isDigit, isSign, isMark, baseOf}
-use Rattle.grammar.specs.Readers.{isRadix}
+use Rattle.grammar.specs.Meaning.{digitOf, isSign, isMark, isRadix}
+use Rattle.grammar.specs.Automaton.{isDigit, baseOf}
 
 unfoldable pub classOf : ℕ → ℕ → Class
 classOf radix b =

@@ -10,9 +10,10 @@ use lib.ListN.{length, take, drop, getD, drop-of-length-le, length-append}
 use lib.Seq.{drop-cons}
 use borrow.Author.Tests.{eq-eqb, ne-eqb, eqb-true, eqb-false}
 use Rattle.digits.specs.Meaning.{digitsOf}
-use Rattle.grammar.specs.Meaning.{digitOf, isDigit, isSign, Written, blank, withExp, at, exponent, nothing, sign}
+use Rattle.grammar.specs.Meaning.{digitOf, isSign, Written, Reading, number, unread}
+use Rattle.grammar.specs.Automaton.{isDigit, blank, withExp, at, exponent, nothing, sign}
+use Rattle.grammar.specs.Reading.{reading, expAt, expScan, expStepOf, expEnd, read-exp, read-exp-end, read-refused, afterRun, underNumber, signFirst, read-exponent-sign, read-exponent-unsigned}
 use Rattle.grammar.specs.Run.{sepOf, valuesOf, inRun, runMore, runLen, withDigits}
-use Rattle.grammar.specs.Reading.{Reading, number, unread, reading, expAt, expScan, expStepOf, expEnd, read-exp, read-exp-end, read-refused, afterRun, underNumber, signFirst, read-exponent-sign, read-exponent-unsigned}
 use Rattle.grammar.specs.declared.byte.Class.{Class}
 use Rattle.grammar.specs.declared.byte.Class.the-variants.{Sign, Point, Underscore, Mark, Other}
 use Rattle.grammar.specs.declared.scan.ExpStep.{ExpStep}

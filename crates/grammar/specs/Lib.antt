@@ -1,5 +1,7 @@
 pub mod Accepted
+pub mod Agrees
 pub mod Appended
+pub mod Automaton
 pub mod Cases
 pub mod Class
 pub mod Found
@@ -7,9 +9,8 @@ pub mod Literal
 pub mod Literals
 pub mod Meaning
 pub mod Parts
-pub mod Readers
+pub mod Pointed
 pub mod Reading
 pub mod Rounding
 pub mod Run
-pub mod Step
 pub mod Theorems

@@ -10,10 +10,12 @@ use lib.ListN.{length, drop, getD, drop-of-length-le, length-drop}
 use lib.Seq.{drop-cons, drop-drop}
 use borrow.Author.Tests.{eq-eqb, ne-eqb}
 use Rattle.format.specs.Meaning.{Sign, signed, unsigned}
-use Rattle.grammar.specs.Meaning.{prefixMark, prefixRadix, dropUnderscores, afterPrefix, literalMinus, literalBody, literalRadix, literalScan, at, whole, sign, blank, Skip}
-use Rattle.grammar.specs.Readers.{isRadix}
+use Rattle.grammar.specs.Meaning.{prefixMark, prefixRadix, dropUnderscores, afterPrefix, literalMinus, literalBody, literalRadix, literalReading, isRadix}
+use Rattle.grammar.specs.Automaton.{literalScan, at, whole, sign, blank, Skip}
+use Rattle.grammar.specs.Reading.{reading}
 use Rattle.grammar.specs.Run.{sepOf}
-use Rattle.grammar.specs.Reading.{Reading, reading, readingOf}
+use Rattle.grammar.specs.Accepted.{prefix-legal}
+use Rattle.grammar.specs.Agrees.{literal-scanned}
 use Rattle.grammar.specs.Found.{Finds, finds-by}
 use Rattle.grammar.specs.declared.literal.Written.{Written as LiteralWritten}
 use Rattle.grammar.specs.declared.scan.Found.{Found}
@@ -27,36 +29,38 @@ startOf neg = cond neg 1 0
 
 pub record FindsLiteral (s : Sign) (t : List ℕ) (r : LiteralWritten) : Type 0 where
   pub radix : r .radix ≡ literalRadix s t
-  pub found : Finds t (r .found) (readingOf (literalScan s t))
+  pub found : Finds t (r .found) (literalReading s t)
 
 -- ---- the sign
 no-bytes : (t : List ℕ) → length t ≡ 0 → t ≡ []
 no-bytes t h = drop-of-length-le t {i = 0} (omega arith)
 
-first-byte : (t : List ℕ) → (length t ≡ 0 → ⊥) → t ≡ getD t 0 0 ∷ drop 1 t
-first-byte t h = drop-cons t 0 0 (omega arith)
-
 module _ (t : List ℕ) where
   pub minus-empty : (s : Bool) → length t ≡ 0 → false ≡ literalMinus (signOf s) t
   unfolding literalMinus
-  minus-empty s h = sym (ap (literalMinus (signOf s)) (no-bytes t h))
+  minus-empty true h = sym (ap (literalMinus signed) (no-bytes t h))
+  minus-empty false h = refl
 
-  pub minus-signed : (s : Bool) → (length t ≡ 0 → ⊥) → s ≡ true → eqb (getD t 0 0) 45 ≡ literalMinus (signOf s) t
+  pub minus-signed : (s : Bool) → s ≡ true → eqb (getD t 0 0) 45 ≡ literalMinus (signOf s) t
   unfolding literalMinus
-  minus-signed true h e = sym (ap (literalMinus signed) (first-byte t h))
-  minus-signed false h e = absurd (false≢true e)
+  minus-signed true e = refl
+  minus-signed false e = absurd (false≢true e)
 
-  pub minus-unsigned : (s : Bool) → (length t ≡ 0 → ⊥) → s ≡ false → false ≡ literalMinus (signOf s) t
+  pub minus-unsigned : (s : Bool) → s ≡ false → false ≡ literalMinus (signOf s) t
   unfolding literalMinus
-  minus-unsigned true h e = absurd (true≢false e)
-  minus-unsigned false h e = sym (ap (literalMinus unsigned) (first-byte t h))
+  minus-unsigned true e = absurd (true≢false e)
+  minus-unsigned false e = refl
 
 -- ---- the prefix at a place
-short : (l : List ℕ) → length l < 2 → 10 ≡ prefixRadix l
-unfolding prefixRadix
-short [] h = refl
-short (a ∷ []) h = refl
-short (a ∷ b ∷ l) h = absurd (omega arith)
+pub same-either : (c : Bool) → _≡_ {A = ℕ} 10 (cond c 10 10)
+same-either true = refl
+same-either false = refl
+
+pub short-prefix : (l : List ℕ) → length l < 2 → 10 ≡ prefixRadix l
+unfolding prefixRadix prefixMark
+short-prefix [] h = refl
+short-prefix (a ∷ []) h = same-either (eqb a 48)
+short-prefix (a ∷ b ∷ l) h = absurd (omega arith)
 
 module _ (t : List ℕ) (from : ℕ) where
   two-bytes : from + 2 ≤ length t → drop from t ≡ getD t from 0 ∷ getD t (from + 1) 0 ∷ drop (from + 2) t
@@ -67,7 +71,7 @@ module _ (t : List ℕ) (from : ℕ) where
       ∙ ap (λ (k : ℕ). getD t from 0 ∷ getD t (from + 1) 0 ∷ drop k t) next
 
   pub prefix-short : length t - from < 2 → 10 ≡ prefixRadix (drop from t)
-  prefix-short h = short (drop from t) (omega (arith, length-drop from t))
+  prefix-short h = short-prefix (drop from t) (omega (arith, length-drop from t))
 
   pub prefix-zero : {n : ℕ} → 2 ≤ length t - from → getD t from 0 ≡ 48 → n ≡ prefixMark (getD t (from + 1) 0) → n ≡ prefixRadix (drop from t)
   unfolding prefixRadix
@@ -77,31 +81,10 @@ module _ (t : List ℕ) (from : ℕ) where
   unfolding prefixRadix
   prefix-other h e = rw (two-bytes (omega arith), ne-eqb (getD t from 0) 48 e)
 
--- the prefix's radix is one of the four, and 10 where there is no second byte
-mark-legal : (b : ℕ) → isRadix (prefixMark b) ≡ true
-unfolding prefixMark isRadix
-mark-legal b = go (eqb b 98) (eqb b 111) (eqb b 120)
-  where
-    go : (x y z : Bool) → isRadix (cond x 2 (cond y 8 (cond z 16 10))) ≡ true
-    go true y z = refl
-    go false true z = refl
-    go false false true = refl
-    go false false false = refl
-
-pub prefix-legal : (t : List ℕ) → isRadix (prefixRadix t) ≡ true
-unfolding prefixRadix isRadix
-prefix-legal [] = refl
-prefix-legal (a ∷ []) = refl
-prefix-legal (a ∷ b ∷ t) = go (eqb a 48)
-  where
-    go : (x : Bool) → isRadix (cond x (prefixMark b) 10) ≡ true
-    go true = mark-legal b
-    go false = refl
-
+-- it is 10 where there is no second byte
 prefix-long : (t : List ℕ) → (prefixRadix t ≡ 10 → ⊥) → 2 ≤ length t
-unfolding prefixRadix
-prefix-long [] h = absurd (h refl)
-prefix-long (a ∷ []) h = absurd (h refl)
+prefix-long [] h = absurd (h (sym (short-prefix [] (omega arith))))
+prefix-long (a ∷ []) h = absurd (h (sym (short-prefix (a ∷ []) (omega arith))))
 prefix-long (a ∷ b ∷ t) h = omega arith
 
 -- ---- the underscores after it
@@ -166,10 +149,11 @@ module _ (s : Bool) (t : List ℕ) {neg : Bool} (m : neg ≡ literalMinus (signO
 
   pub literal-found :
       {k r : ℕ} (d : ℕ) {f : Found} → k ≡ startOf neg → r ≡ prefixRadix (drop k t) → drop d t ≡ afterPrefix (drop k t) →
-      Finds t f (reading (sepOf true) r (drop d t) (at whole sign (blank neg))) → Finds t f (readingOf (literalScan (signOf s) t))
+      Finds t f (reading (sepOf true) r (drop d t) (at whole sign (blank neg))) → Finds t f (literalReading (signOf s) t)
   unfolding reading literalScan
   literal-found d q e a f =
       finds-by t
       (ap₂ (λ (r : ℕ) (g : Bool). reading Skip r (drop d t) (at whole sign (blank g))) (literal-radix q e) m
-      ∙ ap (λ (l : List ℕ). reading Skip (literalRadix (signOf s) t) l (at whole sign (blank (literalMinus (signOf s) t)))) (a ∙ ap afterPrefix (body q)))
+      ∙ ap (λ (l : List ℕ). reading Skip (literalRadix (signOf s) t) l (at whole sign (blank (literalMinus (signOf s) t)))) (a ∙ ap afterPrefix (body q))
+      ∙ sym (literal-scanned (signOf s) t))
       f

@@ -9,13 +9,15 @@ use lib.Dec.{eqb}
 use lib.ListN.{length, length-drop, drop, getD}
 use borrow.Author.Tests.{eqb-true, eqb-false, ne-eqb}
 use Rattle.format.specs.Meaning.{Sign, signed, unsigned}
-use Rattle.grammar.specs.Meaning.{Sep, Skip, Error, isSign, Written, Part, whole, Seen, nothing, sign, digit, Scan, at, refuse, blank, step, scan, finish, plainScan, prefixRadix, dropUnderscores, afterPrefix, literalMinus, literalBody, literalRadix, literalScan, ifFirst, underscore}
-use Rattle.grammar.specs.Step.{onUnderscore, step-by}
-use Rattle.grammar.specs.Accepted.{finish-at, scan-refuse}
+use Rattle.grammar.specs.Meaning.{isSign, Written, number, plainReading, literalReading, prefixRadix, dropUnderscores, afterPrefix, literalMinus, literalBody, literalRadix}
+use Rattle.grammar.specs.Automaton.{Sep, Skip, Error, Part, whole, Seen, nothing, sign, digit, Scan, at, refuse, blank, step, scan, finish, plainScan, literalScan, onSign, onUnderscore, readingOf}
+use Rattle.grammar.specs.Accepted.{finish-at, scan-refuse, number-at}
+use Rattle.grammar.specs.Agrees.{plain-scanned, literal-scanned}
 
 -- ---- `_`: where there is none the readers scan alike
 step-sep : (radix b : ℕ) (p : Part) (q : Seen) (x : Written) → (95 ≡ b → ⊥) → step Skip radix b p q x ≡ step Error radix b p q x
-step-sep radix b p q x h = rw (step-by Skip radix b p q x, step-by Error radix b p q x, ne-eqb b 95 (λ e. h (sym e)))
+unfolding step
+step-sep radix b p q x h = rw (ne-eqb b 95 (λ e. h (sym e)))
 
 scan-sep : (radix : ℕ) (t : List ℕ) (r : Scan) → (List·Memᴰ 95 t → ⊥) → scan Skip radix t r ≡ scan Error radix t r
 unfolding scan
@@ -39,7 +41,8 @@ bare-length (b ∷ t) = go (eqb b 95) (bare-length t)
     go false h = omega arith
 
 step-under : (radix b : ℕ) (p : Part) (q : Seen) (x : Written) → b ≡ 95 → step Skip radix b p q x ≡ onUnderscore Skip p q x
-step-under radix b p q x e = rw (step-by Skip radix b p q x, e)
+unfolding step
+step-under radix b p q x e = rw e
 
 -- a scan that skips them and is not refused is a scan without them
 module _ (radix : ℕ) {p′ : Part} {q′ : Seen} {y : Written} where
@@ -70,7 +73,7 @@ body-scan k radix t neg = finish (scan k radix t (at whole sign (blank neg)))
 
 -- with no sign in front it does not matter whether one was read
 step-unsigned : (radix b : ℕ) (x : Written) → isSign b ≡ false → step Error radix b whole sign x ≡ step Error radix b whole nothing x
-unfolding step underscore
+unfolding step onUnderscore
 step-unsigned radix b x h = rw h refl
 
 scan-unsigned : (radix : ℕ) (t : List ℕ) (neg : Bool) → isSign (getD t 0 0) ≡ false
@@ -81,7 +84,7 @@ scan-unsigned radix (b ∷ t) neg h = ap (λ (y : Scan). finish (scan Error radi
 
 -- a sign in front of a body is misplaced
 step-misplaced : (k : Sep) (radix b : ℕ) (x : Written) → isSign b ≡ true → step k radix b whole sign x ≡ refuse 12
-unfolding step ifFirst
+unfolding step onSign
 step-misplaced k radix b x h = rw h
 
 misplaced : (k : Sep) (radix : ℕ) (t : List ℕ) (neg : Bool) → isSign (getD t 0 0) ≡ true → body-scan k radix t neg ≡ refuse 12
@@ -99,7 +102,7 @@ body-opens k radix t neg {p} {q} {x} e = go (isSign (getD t 0 0)) refl
 
 -- a body behind its sign, as a plain text
 signed-scan : (radix : ℕ) (t : List ℕ) → body-scan Error radix t true ≡ plainScan radix (45 ∷ t)
-unfolding plainScan scan step ifFirst
+unfolding plainScan scan step onSign
 signed-scan radix t = refl
 
 bare-scan-unsigned : (radix : ℕ) (t : List ℕ) → isSign (getD t 0 0) ≡ false → body-scan Error radix t false ≡ plainScan radix t
@@ -117,7 +120,7 @@ body-plain : (radix : ℕ) (t : List ℕ) (neg : Bool) {p : Part} {q : Seen} {x 
 body-plain radix t true e = sym (signed-scan radix t) ∙ e
 body-plain radix t false e = sym (bare-scan-unsigned radix t (body-opens Error radix t false e)) ∙ e
 
-pub literal-bare : (s : Sign) (t : List ℕ) {p : Part} {q : Seen} {x : Written} → literalScan s t ≡ at p q x → plainScan (literalRadix s t) (plainText s t) ≡ at p q x
+literal-bare : (s : Sign) (t : List ℕ) {p : Part} {q : Seen} {x : Written} → literalScan s t ≡ at p q x → plainScan (literalRadix s t) (plainText s t) ≡ at p q x
 unfolding literalScan
 literal-bare s t {p} {q} {x} e =
     let radix = literalRadix s t in
@@ -147,13 +150,13 @@ after-length t = go (eqb (prefixRadix t) 10)
 
 pub plain-length : (s : Sign) (t : List ℕ) → length (plainText s t) ≤ length t
 unfolding literalMinus
-plain-length s [] = omega (arith, bare-length (afterPrefix []), after-length [])
+plain-length signed [] = omega (arith, bare-length (afterPrefix []), after-length [])
 plain-length signed (b ∷ t) = go (eqb b 45)
   where
     go : (m : Bool) → length (signedText m (bare (afterPrefix (cond m t (b ∷ t))))) ≤ suc (length t)
     go true = omega (arith, bare-length (afterPrefix t), after-length t)
     go false = omega (arith, bare-length (afterPrefix (b ∷ t)), after-length (b ∷ t))
-plain-length unsigned (b ∷ t) = omega (arith, bare-length (afterPrefix (b ∷ t)), after-length (b ∷ t))
+plain-length unsigned t = omega (arith, bare-length (afterPrefix t), after-length t)
 
 -- ---- a text without `_` and without a prefix
 -- how it may start so that the plain reader takes its start too: with the `-` that the literal takes, or with no sign
@@ -171,28 +174,27 @@ or-right false b h = h
 
 no-minus : (s : Sign) (t : List ℕ) → isSign (getD t 0 0) ≡ false → literalMinus s t ≡ false
 unfolding literalMinus
-no-minus s [] h = refl
-no-minus signed (b ∷ t) h = or-right (eqb b 43) (eqb b 45) h
-no-minus unsigned (b ∷ t) h = refl
+no-minus signed t h = or-right (eqb (getD t 0 0) 43) (eqb (getD t 0 0) 45) h
+no-minus unsigned t h = refl
 
 body-free : (s : Sign) (t : List ℕ) → (List·Memᴰ 95 t → ⊥) → List·Memᴰ 95 (literalBody s t) → ⊥
 unfolding literalMinus
-body-free s [] h = h
+body-free signed [] h = h
 body-free signed (b ∷ t) h = go (eqb b 45)
   where
     go : (m : Bool) → List·Memᴰ 95 (cond m t (b ∷ t)) → ⊥
     go true e = h (List·Memᴰ·tail e)
     go false e = h e
-body-free unsigned (b ∷ t) h = h
+body-free unsigned t h = h
 
 minus-scan : (s : Sign) (t : List ℕ) → literalMinus s t ≡ true → body-scan Error 10 (literalBody s t) (literalMinus s t) ≡ plainScan 10 t
-unfolding literalMinus plainScan scan step ifFirst
-minus-scan s [] h = absurd (false≢true h)
+unfolding literalMinus plainScan scan step onSign
+minus-scan signed [] h = absurd (false≢true h)
 minus-scan signed (b ∷ t) h = rw (eqb-true b 45 h)
-minus-scan unsigned (b ∷ t) h = absurd (false≢true h)
+minus-scan unsigned t h = absurd (false≢true h)
 
 module _ (s : Sign) (t : List ℕ) (plain : List·Memᴰ 95 t → ⊥) (ten : literalRadix s t ≡ 10) where
-  pub literal-scan-plain : Opens s t → literalScan s t ≡ plainScan 10 t
+  literal-scan-plain : Opens s t → literalScan s t ≡ plainScan 10 t
   unfolding plainScan
   literal-scan-plain o =
       literal-body s t ten ∙ ap finish (scan-sep 10 (literalBody s t) (at whole sign (blank (literalMinus s t))) (body-free s t plain)) ∙ go o
@@ -202,9 +204,23 @@ module _ (s : Sign) (t : List ℕ) (plain : List·Memᴰ 95 t → ⊥) (ten : li
       go (inr h) = rw (no-minus s t h) (scan-unsigned 10 t false h)
 
   -- where the literal reader takes the text it starts so
-  pub taken-opens : {p : Part} {q : Seen} {x : Written} → literalScan s t ≡ at p q x → Opens s t
+  taken-opens : {p : Part} {q : Seen} {x : Written} → literalScan s t ≡ at p q x → Opens s t
   taken-opens {p} {q} {x} e = go (literalMinus s t) refl (sym (literal-body s t ten) ∙ e)
     where
       go : (m : Bool) → literalMinus s t ≡ m → body-scan Skip 10 (literalBody s t) (literalMinus s t) ≡ at p q x → Opens s t
       go true a e = inl a
       go false a e = inr (body-opens Skip 10 t false (rw a at e))
+
+-- ---- the same of what the meaning reads
+pub literal-number : (s : Sign) (t : List ℕ) {x : Written} → literalReading s t ≡ number x → plainReading (literalRadix s t) (plainText s t) ≡ number x
+unfolding readingOf
+literal-number s t e =
+    let found = number-at (literalScan s t) (sym (literal-scanned s t) ∙ e) in
+    plain-scanned (literalRadix s t) (plainText s t) ∙ ap readingOf (literal-bare s t (found .is))
+
+module _ (s : Sign) (t : List ℕ) (plain : List·Memᴰ 95 t → ⊥) (ten : literalRadix s t ≡ 10) where
+  pub literal-same : Opens s t → literalReading s t ≡ plainReading 10 t
+  literal-same o = literal-scanned s t ∙ ap readingOf (literal-scan-plain s t plain ten o) ∙ sym (plain-scanned 10 t)
+
+  pub number-opens : {x : Written} → literalReading s t ≡ number x → Opens s t
+  number-opens e = taken-opens s t plain ten (number-at (literalScan s t) (sym (literal-scanned s t) ∙ e) .is)

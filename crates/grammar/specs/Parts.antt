@@ -12,11 +12,12 @@ use lib.ListN.{length, take, drop, getD, drop-of-length-le, length-map, length-d
 use lib.Seq.{drop-cons, drop-drop, take-add}
 use borrow.Author.Tests.{ne-eqb}
 use Rattle.digits.specs.Meaning.{digitsOf}
-use Rattle.grammar.specs.Meaning.{digitOf, isDigit, isSign, Written, Scan, at, whole, fraction, nothing, sign, blank, finish, scan, plainScan, Error}
-use Rattle.grammar.specs.Readers.{isRadix}
+use Rattle.grammar.specs.Meaning.{digitOf, isSign, Written, plainReading, isRadix, Reading, number, unread}
+use Rattle.grammar.specs.Automaton.{isDigit, Scan, at, whole, fraction, nothing, sign, blank, finish, scan, Error, readingOf}
+use Rattle.grammar.specs.Reading.{reading, opened, afterRun, Stopped, read-after, read-point, read-end, signFirst, read-unsigned, read-sign}
 use Rattle.grammar.specs.Run.{valuesOf, values-digit, values-under, both, sepOf, inRun, runMore, runLen, partOf, withDigits, seenAfter, scan-run}
 use Rattle.grammar.specs.Class.{classOf, Plain, digit-plain}
-use Rattle.grammar.specs.Reading.{Reading, number, unread, reading, readingOf, opened, afterRun, Stopped, read-after, read-point, read-end, signFirst, read-unsigned, read-sign}
+use Rattle.grammar.specs.Agrees.{plain-agrees}
 use Rattle.grammar.specs.Found.{bodyOf, Stretch, more-fits, part, spanOf, runOf, writtenOf, wholeOf, unmarkedOf, Counted, Ready, Finds, finds-by, finds-unmarked, no-sign-at, no-sign-past}
 use Rattle.grammar.specs.declared.byte.Class.{Class}
 use Rattle.grammar.specs.declared.scan.Run.{Run}
@@ -283,16 +284,15 @@ module _ (t : List ℕ) (from radix : ℕ) (skip : Bool) {run : Run} (e : run �
 
 -- ---- the plain text: its sign, or none
 module _ (t : List ℕ) (radix : ℕ) where
-  plain-is : reading Error radix t (at whole nothing (blank false)) ≡ readingOf (plainScan radix t)
-  unfolding reading plainScan
-  plain-is = refl
+  plain-is : reading Error radix t (at whole nothing (blank false)) ≡ plainReading radix t
+  plain-is = sym (plain-agrees radix t)
 
-  pub plain-none : {r : Found} → signFirst t ≡ false → Finds t r (reading (sepOf false) radix (drop 0 t) (at whole sign (blank false))) → Finds t r (readingOf (plainScan radix t))
+  pub plain-none : {r : Found} → signFirst t ≡ false → Finds t r (reading (sepOf false) radix (drop 0 t) (at whole sign (blank false))) → Finds t r (plainReading radix t)
   plain-none h f = finds-by t (sym (read-unsigned Error radix t (blank false) h) ∙ plain-is) f
 
   pub plain-signed :
       {r : Found} (minus : Bool) → 0 < length t → isSign (getD t 0 0) ≡ true → eqb (getD t 0 0) 45 ≡ minus →
-      Finds t r (reading (sepOf false) radix (drop 1 t) (at whole sign (blank minus))) → Finds t r (readingOf (plainScan radix t))
+      Finds t r (reading (sepOf false) radix (drop 1 t) (at whole sign (blank minus))) → Finds t r (plainReading radix t)
   plain-signed minus h s m f =
       finds-by t
       (ap (λ (g : Bool). reading Error radix (drop 1 t) (at whole sign (blank g))) (sym m)
@@ -300,16 +300,16 @@ module _ (t : List ℕ) (radix : ℕ) where
       ∙ ap (λ (l : List ℕ). reading Error radix l (at whole nothing (blank false))) (sym (drop-cons t 0 0 h)) ∙ plain-is)
       f
 
-  pub plain-empty : {r : Found} → length t ≡ 0 → Finds t r (reading (sepOf false) radix (drop 0 t) (at whole sign (blank false))) → Finds t r (readingOf (plainScan radix t))
+  pub plain-empty : {r : Found} → length t ≡ 0 → Finds t r (reading (sepOf false) radix (drop 0 t) (at whole sign (blank false))) → Finds t r (plainReading radix t)
   plain-empty h f = plain-none (no-sign-past t 0 (omega arith)) f
 
-  pub plain-plus : {r : Found} → (length t ≡ 0 → ⊥) → getD t 0 0 ≡ 43 → Finds t r (reading (sepOf false) radix (drop 1 t) (at whole sign (blank false))) → Finds t r (readingOf (plainScan radix t))
+  pub plain-plus : {r : Found} → (length t ≡ 0 → ⊥) → getD t 0 0 ≡ 43 → Finds t r (reading (sepOf false) radix (drop 1 t) (at whole sign (blank false))) → Finds t r (plainReading radix t)
   plain-plus h b f = plain-signed false (omega arith) (rw b) (rw b) f
 
-  pub plain-minus : {r : Found} → (length t ≡ 0 → ⊥) → getD t 0 0 ≡ 45 → Finds t r (reading (sepOf false) radix (drop 1 t) (at whole sign (blank true))) → Finds t r (readingOf (plainScan radix t))
+  pub plain-minus : {r : Found} → (length t ≡ 0 → ⊥) → getD t 0 0 ≡ 45 → Finds t r (reading (sepOf false) radix (drop 1 t) (at whole sign (blank true))) → Finds t r (plainReading radix t)
   plain-minus h b f = plain-signed true (omega arith) (rw b) (rw b) f
 
   pub plain-digits :
       {r : Found} → (length t ≡ 0 → ⊥) → (getD t 0 0 ≡ 43 → ⊥) → (getD t 0 0 ≡ 45 → ⊥) →
-      Finds t r (reading (sepOf false) radix (drop 0 t) (at whole sign (blank false))) → Finds t r (readingOf (plainScan radix t))
+      Finds t r (reading (sepOf false) radix (drop 0 t) (at whole sign (blank false))) → Finds t r (plainReading radix t)
   plain-digits h a b f = plain-none (no-sign-at t 0 (omega arith) a b) f

@@ -9,22 +9,14 @@ use native.Mathlib.Omega.{arith}
 use lib.Dec.{leb, ltb, eqb}
 use lib.ListN.{length, take, drop}
 use borrow.Author.Tests.{eq-eqb, ne-eqb, eqb-true, eqb-false, ltb-true, le-leb, lt-leb, leb-true}
-use Rattle.grammar.specs.Meaning.{digitOf, isDigit, isSign, isMark, baseOf, Written, Part, whole, fraction, exponent, Seen, nothing, sign, digit, Scan, at, refuse, blank, withBase, withExp, Sep, Skip, Error, onExpDigit, expLimit, step, scan, ended, finish, ifFirst}
-use Rattle.grammar.specs.Step.{onSign, onPoint, onUnderscore, onMark, onOther, step-by}
+use Rattle.grammar.specs.Meaning.{digitOf, isSign, isMark, Written, Reading, number, unread, expLimit}
+use Rattle.grammar.specs.Automaton.{isDigit, baseOf, Part, whole, fraction, exponent, Seen, nothing, sign, digit, Scan, at, refuse, blank, withBase, withExp, Sep, Skip, Error, onExpDigit, step, scan, ended, finish, onSign, onPoint, onUnderscore, onMark, onOther, readingOf}
 use Rattle.grammar.specs.Class.{classOf, Plain, ten-plain}
 use Rattle.grammar.specs.Run.{sepOf, inRun, runMore, runLen, partOf, seenAfter}
 use Rattle.grammar.specs.declared.scan.ExpStep.{ExpStep}
 use Rattle.grammar.specs.declared.scan.ExpStep.the-variants.{On, Refuse}
 use Rattle.grammar.specs.declared.byte.Class.{Class}
 use Rattle.grammar.specs.declared.byte.Class.the-variants.{Sign, Point, Underscore, Mark, Other}
-
-pub data Reading : Type 0 where
-  number : Written → Reading
-  unread : ℕ → Reading
-
-unfoldable pub readingOf : Scan → Reading
-readingOf (at p q x) = number x
-readingOf (refuse n) = unread n
 
 -- the rest of a text, from where the scan stands
 unfoldable pub reading : Sep → ℕ → List ℕ → Scan → Reading
@@ -39,8 +31,8 @@ onClass (Mark base) k radix b p q x = onMark base p x
 onClass Other k radix b p q x = onOther radix b p x
 
 step-class : (k : Sep) (radix b : ℕ) (p : Part) (q : Seen) (x : Written) → step k radix b p q x ≡ onClass (classOf radix b) k radix b p q x
-unfolding classOf onClass
-step-class k radix b p q x = step-by k radix b p q x ∙ go (isSign b) (eqb b 46) (eqb b 95) (isMark radix b)
+unfolding step classOf onClass
+step-class k radix b p q x = go (isSign b) (eqb b 46) (eqb b 95) (isMark radix b)
   where
     go : (s d u m : Bool) →
         cond s (onSign (eqb b 45) p q x) (cond d (onPoint p x) (cond u (onUnderscore k p q x) (cond m (onMark (baseOf radix b) p x) (onOther radix b p x))))
@@ -185,7 +177,8 @@ under-same Skip p x = refl
 under-same Error p x = refl
 
 step-same : (k : Sep) (radix b : ℕ) (p : Part) (x : Written) → isSign b ≡ false → step k radix b p nothing x ≡ step k radix b p sign x
-step-same k radix b p x e = rw (step-by k radix b p nothing x, step-by k radix b p sign x, e, under-same k p x)
+unfolding step
+step-same k radix b p x e = rw (e, under-same k p x)
 
 pub read-unsigned : (k : Sep) (radix : ℕ) (t : List ℕ) (x : Written) → signFirst t ≡ false → reading k radix t (at whole nothing x) ≡ reading k radix t (at whole sign x)
 unfolding reading scan finish ended readingOf signFirst
@@ -203,11 +196,11 @@ read-exponent-unsigned k radix (b ∷ t) x e = ap (λ (s : Scan). readingOf (fin
 
 -- and where it is a sign
 pub read-sign : (k : Sep) (radix b : ℕ) (t : List ℕ) → isSign b ≡ true → reading k radix (b ∷ t) (at whole nothing (blank false)) ≡ reading k radix t (at whole sign (blank (eqb b 45)))
-unfolding reading scan step ifFirst
+unfolding reading scan step onSign
 read-sign k radix b t e = rw e
 
 pub read-exponent-sign : (k : Sep) (radix b : ℕ) (t : List ℕ) (x : Written) → isSign b ≡ true → reading k radix (b ∷ t) (at exponent nothing x) ≡ reading k radix t (at exponent sign (withExp x (eqb b 45) (x .exp)))
-unfolding reading scan step ifFirst
+unfolding reading scan step onSign
 read-exponent-sign k radix b t x e = rw e
 
 -- ---- the exponent, a byte at a time: a digit takes it further, a `_` that is skipped leaves it, anything else is refused

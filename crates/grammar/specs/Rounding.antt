@@ -21,7 +21,12 @@ use Rattle.format.specs.Meaning.{Sign, signed, unsigned, wrap, settle, withSign
 use Rattle.format.specs.Theorems.{limit, lowest-out, highest-out, wrap-only}
 use Rattle.format.specs.Fault.{half-word}
 use Rattle.format.specs.Place.{sign-out, fits-place}
-use Rattle.grammar.specs.Meaning.{Written, withDigit, natFrom, natOf, num, den, rawOf}
+use Rattle.grammar.specs.Meaning.{Written, natFrom, num, den, rawOf}
+use Rattle.grammar.specs.Automaton.{withDigit}
+
+-- the digits as a number
+abbrev pub natOf : ℕ → List ℕ → ℕ
+natOf radix ds = natFrom radix ds 0
 
 -- ---- the fraction decides
 pub den-pos : (radix : ℕ) (x : Written) → 0 < radix → 0 < x .base → 0 < den radix x

@@ -11,8 +11,8 @@ use lib.Dec.{leb, ltb, eqb}
 use lib.ListN.{length, take, drop, getD}
 use borrow.Author.Tests.{ltb-true, ltb-false, eqb-true, eqb-false, ne-eqb, eq-eqb, leb-true}
 use Rattle.digits.specs.Meaning.{digitsOf, isUnd}
-use Rattle.grammar.specs.Meaning.{digitOf, isDigit, isSign, isMark, Written, Part, whole, fraction, exponent, Seen, nothing, sign, digit, Scan, at, refuse, withDigit, Sep, Skip, Error, step, scan, underscore}
-use Rattle.grammar.specs.Readers.{isRadix}
+use Rattle.grammar.specs.Meaning.{digitOf, isSign, isMark, Written, isRadix}
+use Rattle.grammar.specs.Automaton.{isDigit, Part, whole, fraction, exponent, Seen, nothing, sign, digit, Scan, at, refuse, withDigit, Sep, Skip, Error, step, scan, onOther, onUnderscore}
 use Rattle.grammar.specs.Class.{Plain, digit-plain}
 
 -- the digits of a run, as numbers
@@ -95,7 +95,7 @@ no-values p x = no-digits p x
 -- ---- the scan over a run
 module _ (skip : Bool) (radix : ℕ) (legal : isRadix radix ≡ true) where
   digit-step : (p : Bool) (b : ℕ) (q : Seen) (x : Written) → isDigit radix b ≡ true → step (sepOf skip) radix b (partOf p) q x ≡ at (partOf p) digit (withDigit x (digitOf b) (cond p 1 0))
-  unfolding step
+  unfolding step onOther
   digit-step false b q x h =
       let n = digit-plain radix b legal h in
       simp (n .no-sign, n .no-point, n .no-under, n .no-mark, h)
@@ -103,9 +103,9 @@ module _ (skip : Bool) (radix : ℕ) (legal : isRadix radix ≡ true) where
       let n = digit-plain radix b legal h in
       simp (n .no-sign, n .no-point, n .no-under, n .no-mark, h)
 
-  -- an underscore that is underscore
+  -- a `_` that is skipped
   under-step : (p : Bool) (b : ℕ) (x : Written) → skip ≡ true → b ≡ 95 → step (sepOf skip) radix b (partOf p) digit x ≡ at (partOf p) digit x
-  unfolding step underscore
+  unfolding step onUnderscore
   under-step false b x t e = rw (t, e)
   under-step true b x t e = rw (t, e)
 

@@ -25,30 +25,27 @@ use Rattle.format.specs.Theorems.{InRange, limit, in-fits, settle-fits, strict-
 use Rattle.format.specs.Fault.{fault-free, width-bounds}
 use Rattle.format.specs.Settle.{unless-none}
 use Rattle.format.specs.Place.{within, fits-place}
-use Rattle.grammar.specs.Meaning.{Skip, Error, Written, Part, whole, fraction, Seen, nothing, sign, Scan, at, blank, plainScan, afterPrefix, literalMinus}
-use Rattle.grammar.specs.Meaning.{literalBody, literalRadix, literalScan, num, den, rawOf, readScan}
-use Rattle.grammar.specs.Readers.{textLimit, isRadix, readOf, literalOf}
-use Rattle.grammar.specs.Accepted.{Sound, Ends, ends-at, ends-not, plain-ends, literal-ends, ends-sound, radix-two, prefix-radix, sound-base}
+use Rattle.grammar.specs.Meaning.{Written, Reading, number, plainReading, literalReading, outcomeOf, afterPrefix, literalMinus, literalBody, literalRadix, num, den, rawOf, textLimit, isRadix, readOf, literalOf}
+use Rattle.grammar.specs.Automaton.{Skip, Error, whole, nothing, sign, at, blank, plainScan, literalScan, readScan}
+use Rattle.grammar.specs.Accepted.{Numbered, Says, says, says-not, says-numbered, plain-ends, literal-ends, radix-two, prefix-legal, sound-base}
+use Rattle.grammar.specs.Agrees.{plain-says, literal-says, scanOf, literalScanOf, read-scan-of, literal-scan-of}
+use Rattle.grammar.specs.Pointed.{plain-fraction, literal-fraction}
 use Rattle.grammar.specs.Rounding.{den-pos, same-fraction, ByRadix, upward, downward, same-place}
 use Rattle.grammar.specs.Appended.{zeros, zeros-same, minus-zeros, body-zeros, prefix-zeros, after-zeros}
-use Rattle.grammar.specs.Literals.{plainText, plain-length, literal-bare, Opens, literal-scan-plain, taken-opens}
+use Rattle.grammar.specs.Literals.{plainText, plain-length, Opens, literal-number, literal-same, number-opens}
 
 -- The plain reader takes t for the number x: no refusal applies to the format, the radix and the length, and the scan ends with x.
 pub record Taken (w f radix : ℕ) (t : List ℕ) (x : Written) : Type 0 where
   pub format : faultOf w f ≡ 0
   pub legal : isRadix radix ≡ true
   pub short : length t ≤ textLimit
-  pub part : Part
-  pub seen : Seen
-  pub scanned : plainScan radix t ≡ at part seen x
+  pub scanned : plainReading radix t ≡ number x
 
 -- the same of the literal reader
 pub record TakenLiteral (s : Sign) (w f : ℕ) (t : List ℕ) (x : Written) : Type 0 where
   pub format : faultOf w f ≡ 0
   pub short : length t ≤ textLimit
-  pub part : Part
-  pub seen : Seen
-  pub scanned : literalScan s t ≡ at part seen x
+  pub scanned : literalReading s t ≡ number x
 
 some-width : (w f : ℕ) → faultOf w f ≡ 0 → 0 < w
 some-width w f h = omega (arith, width-bounds w (fault-free w f h .0))
@@ -66,14 +63,14 @@ unsigned-iff w m neg t e = let e′ = rw t at e in (λ a z. e′ .0 a (minus-fit
 -- (`Nearest` of laws). A reader that takes the text answers with m, the sign applied and the flag clear, if that fits; strict refuses with 10, and
 -- overflowing sets the flag, exactly if it does not. "Unsigned and negative: overflow exactly if that rounded magnitude is not 0."
 module _ {w f radix : ℕ} {t : List ℕ} {x : Written} (taken : Taken w f radix t x) where
-  pub taken-sound : Sound radix (taken .part) (taken .seen) x
-  taken-sound = ends-sound (subst (Ends radix) (taken .scanned) (plain-ends radix t))
+  pub taken-sound : Numbered radix x
+  taken-sound = says-numbered (subst (Says radix) (taken .scanned) (plain-says radix t))
 
   pub den-positive : 0 < den radix x
-  den-positive = let r = radix-two radix (taken .legal) in den-pos radix x (omega arith) (sound-base (omega arith) taken-sound)
+  den-positive = let r = radix-two radix (taken .legal) in den-pos radix x (omega arith) (sound-base (omega arith) (taken-sound .sound))
 
   pub read-as : (k : Manner) (s : Sign) → readOf k s w f radix t ≡ settle k s w (withSign (x .neg) (rawOf radix f x))
-  unfolding readOf readScan
+  unfolding readOf outcomeOf
   read-as k s = unless-none (faultOf w f) _ (taken .format) ∙ rw (taken .legal, le-leb (length t) textLimit (taken .short), taken .scanned)
 
   -- there is one
@@ -103,10 +100,10 @@ module _ {w f radix : ℕ} {t : List ℕ} {x : Written} (taken : Taken w f radix
 module _ (s : Sign) (t : List ℕ) (plain : List·Memᴰ 95 t → ⊥) (ten : literalRadix s t ≡ 10) where
   pub literal-plain : Opens s t → (w f : ℕ) → literalOf s w f t ≡ readOf Strict s w f 10 t
   unfolding literalOf readOf isRadix
-  literal-plain o w f = rw (ten, literal-scan-plain s t plain ten o)
+  literal-plain o w f = rw (ten, literal-same s t plain ten o)
 
   pub literal-as-plain : {w f : ℕ} {x : Written} → TakenLiteral s w f t x → literalOf s w f t ≡ readOf Strict s w f 10 t
-  literal-as-plain {w} {f} taken = literal-plain (taken-opens s t plain ten (taken .scanned)) w f
+  literal-as-plain {w} {f} taken = literal-plain (number-opens s t plain ten (taken .scanned)) w f
 
 -- With prefix and `_`: a literal that is taken reads as its sign and its body, without the prefix and every `_`, in the prefix's radix. So what is
 -- proved above of plain texts holds of literals.
@@ -115,15 +112,13 @@ module _ {s : Sign} {w f : ℕ} {t : List ℕ} {x : Written} (taken : TakenLiter
   literal-taken =
       record {
         format = taken .format;
-        legal = prefix-radix (literalBody s t);
+        legal = prefix-legal (literalBody s t);
         short = omega (arith, taken .short, plain-length s t);
-        part = taken .part;
-        seen = taken .seen;
-        scanned = literal-bare s t (taken .scanned);
+        scanned = literal-number s t (taken .scanned);
       }
 
   pub literal-reads : literalOf s w f t ≡ readOf Strict s w f (literalRadix s t) (plainText s t)
-  unfolding literalOf readScan
+  unfolding literalOf outcomeOf
   literal-reads = unless-none (faultOf w f) _ (taken .format) ∙ rw (le-leb (length t) textLimit (taken .short), taken .scanned) (sym (read-as literal-taken Strict s))
 
   module _ (m : ℕ) (near : Nearest (num (literalRadix s t) x * 2 ^ f) (den (literalRadix s t) x) m) where
@@ -152,10 +147,10 @@ settle-ten Saturating s w z e = let z : _≡_ {A = ℕ} 0 1 = cc in absurd (omeg
 settle-ten Wrapping s w z e = let z : _≡_ {A = ℕ} 0 1 = cc in absurd (omega arith)
 settle-ten Overflowing s w z e = let z : _≡_ {A = ℕ} 0 1 = cc in absurd (omega arith)
 
-late : (k : Manner) (s : Sign) (w f radix : ℕ) {r : Scan} → Ends radix r → (n : ℕ) → readScan k s w f radix r ≡ refused n → 10 ≤ n
-unfolding readScan
-late k s w f radix (ends-at {x = x} h) n e = omega (arith, settle-ten k s w (withSign (x .neg) (rawOf radix f x)) e)
-late k s w f radix (ends-not {n = m} l h) n e = let same : m ≡ n = cc in omega arith
+late : (k : Manner) (s : Sign) (w f radix : ℕ) {r : Reading} → Says radix r → (n : ℕ) → outcomeOf k s w f radix r ≡ refused n → 10 ≤ n
+unfolding outcomeOf
+late k s w f radix (says {x} h) n e = omega (arith, settle-ten k s w (withSign (x .neg) (rawOf radix f x)) e)
+late k s w f radix (says-not {n = m} l h) n e = let same : m ≡ n = cc in omega arith
 
 module _ (w f radix : ℕ) (t : List ℕ) {o : Outcome} (later : (n : ℕ) → o ≡ refused n → 10 ≤ n) where
   -- the four tests of a reader, and then the text
@@ -182,20 +177,21 @@ module _ (w f radix : ℕ) (t : List ℕ) {o : Outcome} (later : (n : ℕ) → o
 
 pub read-early : (k : Manner) (s : Sign) (w f radix : ℕ) (t : List ℕ) (n : ℕ) → n < 10 → (readOf k s w f radix t ≡ refused n) ↔ Early w f radix t n
 unfolding readOf
-read-early k s w f radix t n h = early-iff w f radix t (late k s w f radix (plain-ends radix t)) n h
+read-early k s w f radix t n h = early-iff w f radix t (late k s w f radix (plain-says radix t)) n h
 
 -- a literal has a legal radix, so 3 does not occur
 pub literal-early : (s : Sign) (w f : ℕ) (t : List ℕ) (n : ℕ) → n < 10 → (literalOf s w f t ≡ refused n) ↔ Early w f (literalRadix s t) t n
 unfolding literalOf
 literal-early s w f t n h =
-    let e = early-iff w f (literalRadix s t) t (late Strict s w f (literalRadix s t) (literal-ends s t)) n h in
-    rw (prefix-radix (literalBody s t)) at e
+    let e = early-iff w f (literalRadix s t) t (late Strict s w f (literalRadix s t) (literal-says s t)) n h in
+    rw (prefix-legal (literalBody s t)) at e
 
--- ---- Zeros after the point change nothing: a text that ends in its fraction reads the same with any number of `0` after it.
-pub read-zeros : (k : Manner) (s : Sign) (w f radix : ℕ) (t : List ℕ) (n : ℕ) {q : Seen} {x : Written}
-    → plainScan radix t ≡ at fraction q x → length t + n ≤ textLimit → readOf k s w f radix (t ++ zeros n) ≡ readOf k s w f radix t
-unfolding readOf plainScan
-read-zeros k s w f radix t n {q} {x} e h = go (isRadix radix) refl
+-- ---- Zeros after the point change nothing: a number that is written with a point (46) and without an exponent (its base is 1) reads the same with any
+-- number of `0` after it.
+pub read-zeros : (k : Manner) (s : Sign) (w f radix : ℕ) (t : List ℕ) (n : ℕ) {x : Written}
+    → plainReading radix t ≡ number x → List·Memᴰ 46 t → x .base ≡ 1 → length t + n ≤ textLimit → readOf k s w f radix (t ++ zeros n) ≡ readOf k s w f radix t
+unfolding scanOf plainScan
+read-zeros k s w f radix t n {x} e point one h = read-scan-of k s w f radix (t ++ zeros n) ∙ go (isRadix radix) refl ∙ sym (read-scan-of k s w f radix t)
   where
     short : leb (length t) textLimit ≡ true
     short = le-leb (length t) textLimit (omega arith)
@@ -209,18 +205,23 @@ read-zeros k s w f radix t n {q} {x} e h = go (isRadix radix) refl
     go false l = refl
     go true l =
         let r = radix-two radix l in
-        rw (short, long) (ap (unless (faultOf w f)) (zeros-same Error radix (omega arith) k s w f n q x t (at whole nothing (blank false)) (plain-ends radix t) e))
+        let found = plain-fraction radix r t point e one in
+        rw (short, long)
+        (ap (unless (faultOf w f)) (zeros-same Error radix (omega arith) k s w f n (found .0) x t (at whole nothing (blank false)) (plain-ends radix t) (found .1)))
 
-pub literal-zeros : (s : Sign) (w f : ℕ) (t : List ℕ) (n : ℕ) {q : Seen} {x : Written}
-    → literalScan s t ≡ at fraction q x → length t + n ≤ textLimit → literalOf s w f (t ++ zeros n) ≡ literalOf s w f t
-unfolding literalOf literalScan
-literal-zeros s w f t n {q} {x} e h =
+pub literal-zeros : (s : Sign) (w f : ℕ) (t : List ℕ) (n : ℕ) {x : Written}
+    → literalReading s t ≡ number x → List·Memᴰ 46 t → x .base ≡ 1 → length t + n ≤ textLimit → literalOf s w f (t ++ zeros n) ≡ literalOf s w f t
+unfolding literalScanOf literalScan
+literal-zeros s w f t n {x} e point one h =
     let radix = literalRadix s t in
-    let r = radix-two radix (prefix-radix (literalBody s t)) in
+    let r = radix-two radix (prefix-legal (literalBody s t)) in
     let short = le-leb (length t) textLimit (omega arith) in
     let long = le-leb (length (t ++ zeros n)) textLimit (omega (arith, length-append t (zeros n), length-replicate {A = ℕ} n 48)) in
-    let same = zeros-same Skip radix (omega arith) Strict s w f n q x (afterPrefix (literalBody s t)) (at whole sign (blank (literalMinus s t))) (literal-ends s t) e in
-    rw (short, long) (ap (unless (faultOf w f)) (rw (body-zeros s t n, after-zeros (literalBody s t) n, prefix-zeros (literalBody s t) n, minus-zeros s t n) same))
+    let found = literal-fraction s t r point e one in
+    let same = zeros-same Skip radix (omega arith) Strict s w f n (found .0) x (afterPrefix (literalBody s t)) (at whole sign (blank (literalMinus s t))) (literal-ends s t) (found .1) in
+    literal-scan-of s w f (t ++ zeros n)
+    ∙ rw (short, long) (ap (unless (faultOf w f)) (rw (body-zeros s t n, after-zeros (literalBody s t) n, prefix-zeros (literalBody s t) n, minus-zeros s t n) same))
+    ∙ sym (literal-scan-of s w f t)
 
 -- ---- Only the number matters: two texts, of whatever radix, with the same sign and the same fraction read the same.
 module _ (k : Manner) (s : Sign) {w f r₁ r₂ : ℕ} {t u : List ℕ} {x y : Written} (a : Taken w f r₁ t x) (b : Taken w f r₂ u y) (neg : x .neg ≡ y .neg) where

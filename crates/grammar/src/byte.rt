@@ -1,7 +1,8 @@
 // What a byte is to the scanner (docs/GRAMMAR.md, "Classes of bytes").
 ghost use mathlib.Core.Path.{_≡_};
 ghost use Prim.Native.Nat.{_<_};
-ghost use Rattle.grammar.specs.Meaning.{digitOf, isDigit, isMark, baseOf};
+ghost use Rattle.grammar.specs.Meaning.{digitOf, isMark};
+ghost use Rattle.grammar.specs.Automaton.{isDigit, baseOf};
 ghost use Rattle.grammar.specs.Class.{classOf};
 
 // A byte in front of which a run of digits ends. A mark comes with what it scales by.

@@ -1,7 +1,7 @@
 // Which texts are numbers, and where their digits stand (docs/GRAMMAR.md; `parse_bounds` and `lit` of S's src/from_str.rs).
 
 ghost use mathlib.Core.Path.{_≡_};
-ghost use Rattle.grammar.specs.Readers.{isRadix};
+ghost use Rattle.grammar.specs.Meaning.{isRadix};
 
 pub mod byte;
 pub mod literal;

@@ -3,12 +3,12 @@ ghost use mathlib.Core.Path.{_≡_};
 ghost use mathlib.Core.Bool.{Bool, true};
 ghost use Prim.Native.Nat.{_+_, _*_, _<_, _≤_};
 ghost use lib.ListN.{length, drop};
-ghost use Rattle.grammar.specs.Meaning.{at, whole as wholePart, fraction as fractionPart, exponent as exponentPart, nothing, sign as signSeen, blank, expLimit, plainScan};
-ghost use Rattle.grammar.specs.Readers.{isRadix};
+ghost use Rattle.grammar.specs.Meaning.{expLimit, plainReading, isRadix};
+ghost use Rattle.grammar.specs.Automaton.{at, whole as wholePart, fraction as fractionPart, exponent as exponentPart, nothing, sign as signSeen, blank};
+ghost use Rattle.grammar.specs.Reading.{reading, afterRun, underNumber, expUnder, expDigit, expOther, expStepOf};
 ghost use Rattle.grammar.specs.Run.{inRun, runMore, runLen, sepOf};
 ghost use Rattle.grammar.specs.Found.{runOf, noDigits, unmarkedOf, expEndOf, writtenOf, withDown, withMarkBase, wholeOf, Ready, Finds};
 ghost use Rattle.grammar.specs.Parts.{Behind};
-ghost use Rattle.grammar.specs.Reading.{reading, readingOf, afterRun, underNumber, expUnder, expDigit, expOther, expStepOf};
 use crate::byte;
 use crate::byte::Class;
 
@@ -340,7 +340,7 @@ pub fn whole(text: &[u8], from: usize, radix: u32, skip: bool, neg: bool) -> Fou
 // A plain text in a radix.
 pub fn plain(text: &[u8], radix: u32) -> Found
     requires { ⌜ isRadix radix ≡ true ⌝ }
-    ensures { λ r. ⌜ Finds (now (text .entry)) r (readingOf (plainScan radix (now (text .entry)))) ⌝ }
+    ensures { λ r. ⌜ Finds (now (text .entry)) r (plainReading radix (now (text .entry))) ⌝ }
 {
     if text.len() == 0 {
         return whole(text, 0, radix, false, false);

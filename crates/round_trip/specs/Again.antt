@@ -16,7 +16,7 @@ use Rattle.format.specs.declared.UnsignedAnswer.{UnsignedAnswer}
 use Rattle.format.specs.declared.UnsignedAnswer.the-variants.{Done as DoneU, Refused as RefusedU}
 use Rattle.format.specs.Meaning.{Sign, signed, unsigned, faultOf, unless, done, refused, signedAnswer, unsignedAnswer}
 use Rattle.format.specs.Theorems.{InRange}
-use Rattle.grammar.specs.Readers.{readOf}
+use Rattle.grammar.specs.Meaning.{readOf}
 use Rattle.decimal.specs.Meaning.{rawText, put, writeOf}
 use Rattle.decimal.specs.Promise.{WriteSigned, WriteUnsigned}
 use Rattle.decimal.specs.Theorems.{written-reads}

@@ -11,8 +11,8 @@ use lib.ListN.{length, take}
 use lib.Seq.{take-all}
 use lib.Pow.{pow-add, pow-pos}
 use Rattle.laws.specs.Nearest.{nearestEven, nearest-exact, nearest-scale}
-use Rattle.grammar.specs.Meaning.{natOf, num, den, rawOf}
-use Rattle.grammar.specs.Readers.{textLimit}
+use Rattle.grammar.specs.Meaning.{num, den, rawOf, textLimit}
+use Rattle.grammar.specs.Rounding.{natOf}
 use Rattle.text.specs.declared.fold.Folded.{Folded}
 use Rattle.text.specs.declared.fold.Order.{Order}
 use Rattle.text.specs.Fold.{foldOf, valueOf, fold-times}

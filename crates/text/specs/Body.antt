@@ -9,7 +9,8 @@ use lib.Dec.{eqb, ltb}
 use lib.ListN.{length, take, drop, getD, drop-of-length-le}
 use lib.Seq.{drop-cons, take-suc, getD-drop, drop-drop}
 use borrow.Author.Tests.{eq-eqb, ne-eqb, ltb-true, ltb-false}
-use Rattle.grammar.specs.Meaning.{Written, digitOf, natFrom, natOf}
+use Rattle.grammar.specs.Meaning.{Written, digitOf, natFrom}
+use Rattle.grammar.specs.Rounding.{natOf}
 use Rattle.grammar.specs.Found.{bodyOf}
 use Rattle.grammar.specs.Rounding.{natFrom-snoc}
 use Rattle.text.specs.declared.fold.Folded.{Folded}

@@ -13,7 +13,7 @@ use lib.Seq.{getD-drop, drop-drop}
 use lib.Pow.{pow-add, pow-pos, pow-mono}
 use borrow.Author.Tests.{ltb-true, ltb-false}
 use Rattle.laws.specs.Nearest.{nearestEven, nearest-none}
-use Rattle.grammar.specs.Meaning.{natOf}
+use Rattle.grammar.specs.Rounding.{natOf}
 use Rattle.grammar.specs.Rounding.{natOf-below}
 use Rattle.text.specs.declared.fold.Folded.{Folded}
 use Rattle.text.specs.declared.fold.Order.{Order}

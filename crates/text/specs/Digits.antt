@@ -5,7 +5,8 @@ use Prim.Native.Nat.{ℕ, zero, suc, _+_, _-_, _*_, _^_, _≤_, _<_}
 use native.Mathlib.Nat.{pow-zero, pow-suc, mul-le-mul-right}
 use native.Mathlib.Omega.{arith}
 use lib.ListN.{length, take, drop, replicate}
-use Rattle.grammar.specs.Meaning.{natFrom, natOf}
+use Rattle.grammar.specs.Meaning.{natFrom}
+use Rattle.grammar.specs.Rounding.{natOf}
 
 -- every digit is below ten
 abbrev pub Small : List ℕ → Type 0

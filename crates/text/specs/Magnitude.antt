@@ -10,9 +10,10 @@ use lib.Dec.{eqb}
 use lib.ListN.{length, take, drop, length-append, length-take, length-drop}
 use borrow.Author.Tests.{eqb-true}
 use Rattle.laws.specs.Nearest.{nearestEven}
-use Rattle.grammar.specs.Meaning.{digitOf, Written, Part, whole, fraction, exponent, expLimit, natOf, num, den, rawOf}
-use Rattle.grammar.specs.Readers.{isRadix, textLimit}
-use Rattle.grammar.specs.Accepted.{Sound, TenIs, sound-exp}
+use Rattle.grammar.specs.Meaning.{digitOf, Written, expLimit, num, den, rawOf, isRadix, textLimit}
+use Rattle.grammar.specs.Automaton.{Part, whole, fraction, exponent}
+use Rattle.grammar.specs.Rounding.{natOf}
+use Rattle.grammar.specs.Accepted.{Sound, TenIs, sound-exp, sound-bases}
 use Rattle.grammar.specs.Found.{bodyOf, part, spanOf, writtenOf, Ready}
 use Rattle.grammar.specs.declared.scan.Parsed.{Parsed}
 use Rattle.text.specs.Body.{asWritten}
@@ -78,7 +79,7 @@ module _ (t : List ℕ) (p : Parsed) (radix frac : ℕ) (h : Readable t p radix 
         short = body-short;
         within = omega arith;
         radix-is = radix-bits radix (h .legal) n;
-        base-is = h .sound .base-is;
+        base-is = sound-bases (h .sound);
         below = digit-below;
         small = exp-small;
         room = h .room;

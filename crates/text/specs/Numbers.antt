@@ -9,7 +9,8 @@ use lib.Dec.{eqb}
 use lib.ListN.{length, take, drop, getD, take-append-drop, length-drop}
 use lib.Seq.{drop-cons}
 use borrow.Author.Tests.{eqb-true, eqb-false}
-use Rattle.grammar.specs.Meaning.{digitOf, natFrom, natOf}
+use Rattle.grammar.specs.Meaning.{digitOf, natFrom}
+use Rattle.grammar.specs.Rounding.{natOf}
 use Rattle.grammar.specs.Found.{bodyOf}
 use Rattle.text.specs.Body.{isGap, anyOf}
 

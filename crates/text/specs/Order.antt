@@ -10,7 +10,8 @@ use lib.Dec.{ltb, eqb}
 use lib.ListN.{length, replicate}
 use lib.Pow.{pow-add, pow-mono, shl-exact}
 use borrow.Author.Tests.{ltb-true, ltb-false, lt-ltb, le-ltb, eqb-true, eqb-false, ne-eqb}
-use Rattle.grammar.specs.Meaning.{natFrom, natOf}
+use Rattle.grammar.specs.Meaning.{natFrom}
+use Rattle.grammar.specs.Rounding.{natOf}
 use Rattle.text.specs.declared.fold.Order.{Order}
 use Rattle.text.specs.declared.fold.Order.the-variants.{Less, Same, More}
 use Rattle.text.specs.Round.{orderOf, order-less, order-more, order-same}

@@ -9,7 +9,8 @@ use native.Mathlib.Omega.{arith}
 use lib.ListN.{length, take, drop, length-drop, take-append-drop}
 use lib.Pow.{pow-add}
 use Rattle.laws.specs.Nearest.{nearestEven, nearest-same, nearest-exact}
-use Rattle.grammar.specs.Meaning.{Written, natOf, num, den, rawOf}
+use Rattle.grammar.specs.Meaning.{Written, num, den, rawOf}
+use Rattle.grammar.specs.Rounding.{natOf}
 use Rattle.grammar.specs.Rounding.{ByRadix, upward, downward, same-place}
 use Rattle.text.specs.Digits.{nat-append}
 

@@ -10,7 +10,8 @@ use lib.Dec.{lit<}
 use lib.ListN.{length, drop, replicate}
 use lib.Pow.{pow-pos, pow-mono, pow-add, shl-exact}
 use Rattle.laws.specs.Nearest.{nearestEven, nearest-none}
-use Rattle.grammar.specs.Meaning.{natFrom, natOf}
+use Rattle.grammar.specs.Meaning.{natFrom}
+use Rattle.grammar.specs.Rounding.{natOf}
 use Rattle.text.specs.declared.fold.Order.{Order}
 use Rattle.text.specs.Digits.{Small, nat-shift, nat-below}
 use Rattle.text.specs.Order.{order-scale, orderTen, order-ten}

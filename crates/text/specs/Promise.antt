@@ -7,7 +7,7 @@ use Rattle.format.specs.declared.SignedAnswer.{SignedAnswer}
 use Rattle.format.specs.declared.UnsignedAnswer.{UnsignedAnswer}
 use Rattle.format.specs.Meaning.{signed, unsigned, signedAnswer, unsignedAnswer}
 use Rattle.format.specs.Promise.{unique}
-use Rattle.grammar.specs.Readers.{readOf, literalOf}
+use Rattle.grammar.specs.Meaning.{readOf, literalOf}
 
 abbrev pub ReadSigned : List ℕ → ℕ → ℕ → ℕ → Manner → SignedAnswer → Type 0
 ReadSigned t w f radix k r = r ≡ signedAnswer (readOf k signed w f radix t)

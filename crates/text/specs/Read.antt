@@ -14,12 +14,12 @@ use Rattle.format.specs.declared.Manner.the-variants.{Strict}
 use Rattle.format.specs.Meaning.{Sign, signed, unsigned, Outcome, refused, unless, faultOf, isWidth, settle, withSign, exact}
 use Rattle.format.specs.Fault.{fault-free, width-bounds}
 use Rattle.format.specs.Settle.{unless-fault, unless-none}
-use Rattle.grammar.specs.Meaning.{Written, Part, Seen, Scan, at, refuse, plainScan, literalBody, literalRadix, literalScan, num, den, rawOf, readScan}
-use Rattle.grammar.specs.Readers.{isRadix, textLimit, readOf, literalOf}
-use Rattle.grammar.specs.Accepted.{Sound, Ends, ends-at, ends-not, plain-ends, literal-ends, sound-exp}
-use Rattle.grammar.specs.Literal.{FindsLiteral, prefix-legal}
+use Rattle.grammar.specs.Meaning.{Written, Reading, number, unread, plainReading, literalBody, literalRadix, literalReading, num, den, rawOf, outcomeOf, isRadix, textLimit, readOf, literalOf}
+use Rattle.grammar.specs.Automaton.{Part, Seen}
+use Rattle.grammar.specs.Accepted.{Sound, Numbered, Says, says-numbered, prefix-legal}
+use Rattle.grammar.specs.Agrees.{plain-says, literal-says}
+use Rattle.grammar.specs.Literal.{FindsLiteral}
 use Rattle.grammar.specs.declared.literal.Written.{Written as LiteralWritten}
-use Rattle.grammar.specs.Reading.{Reading, number, unread, readingOf}
 use Rattle.grammar.specs.Found.{bodyOf, part, spanOf, writtenOf, Ready, Finds, finds, refuses}
 use Rattle.text.specs.declared.fold.Folded.{Folded}
 use Rattle.text.specs.Fold.{foldOf, valueOf, bit}
@@ -47,24 +47,24 @@ early-unless n m o = go (eqb n 0) refl
     go true e = refl
     go false e = rw e
 
-pub plain-early : (k : Manner) (s : Sign) (w f radix : ℕ) (t : List ℕ) → unless (earlyPlain w f radix (length t)) (readScan k s w f radix (plainScan radix t)) ≡ readOf k s w f radix t
+pub plain-early : (k : Manner) (s : Sign) (w f radix : ℕ) (t : List ℕ) → unless (earlyPlain w f radix (length t)) (outcomeOf k s w f radix (plainReading radix t)) ≡ readOf k s w f radix t
 unfolding readOf earlyPlain lengthFault unless
 plain-early k s w f radix t =
-    early-unless (faultOf w f) (cond (isRadix radix) (cond (leb (length t) textLimit) 0 4) 3) (readScan k s w f radix (plainScan radix t))
+    early-unless (faultOf w f) (cond (isRadix radix) (cond (leb (length t) textLimit) 0 4) 3) (outcomeOf k s w f radix (plainReading radix t))
     ∙ ap (unless (faultOf w f)) (go (isRadix radix) (leb (length t) textLimit))
   where
-    go : (a b : Bool) → unless (cond a (cond b 0 4) 3) (readScan k s w f radix (plainScan radix t)) ≡ cond a (cond b (readScan k s w f radix (plainScan radix t)) (refused 4)) (refused 3)
+    go : (a b : Bool) → unless (cond a (cond b 0 4) 3) (outcomeOf k s w f radix (plainReading radix t)) ≡ cond a (cond b (outcomeOf k s w f radix (plainReading radix t)) (refused 4)) (refused 3)
     go true true = refl
     go true false = refl
     go false b = refl
 
-pub literal-early : (s : Sign) (w f : ℕ) (t : List ℕ) → unless (earlyLiteral w f (length t)) (readScan Strict s w f (literalRadix s t) (literalScan s t)) ≡ literalOf s w f t
+pub literal-early : (s : Sign) (w f : ℕ) (t : List ℕ) → unless (earlyLiteral w f (length t)) (outcomeOf Strict s w f (literalRadix s t) (literalReading s t)) ≡ literalOf s w f t
 unfolding literalOf earlyLiteral lengthFault unless
 literal-early s w f t =
-    early-unless (faultOf w f) (cond (leb (length t) textLimit) 0 4) (readScan Strict s w f (literalRadix s t) (literalScan s t))
+    early-unless (faultOf w f) (cond (leb (length t) textLimit) 0 4) (outcomeOf Strict s w f (literalRadix s t) (literalReading s t))
     ∙ ap (unless (faultOf w f)) (go (leb (length t) textLimit))
   where
-    go : (b : Bool) → unless (cond b 0 4) (readScan Strict s w f (literalRadix s t) (literalScan s t)) ≡ cond b (readScan Strict s w f (literalRadix s t) (literalScan s t)) (refused 4)
+    go : (b : Bool) → unless (cond b 0 4) (outcomeOf Strict s w f (literalRadix s t) (literalReading s t)) ≡ cond b (outcomeOf Strict s w f (literalRadix s t) (literalReading s t)) (refused 4)
     go true = refl
     go false = refl
 
@@ -144,39 +144,18 @@ foundOutcome k s w f radix t (Refused n) = refused n
 
 -- what was found is what the meaning reads
 module _ (k : Manner) (s : Sign) (w f radix : ℕ) (t : List ℕ) where
-  number-read : (sc : Scan) (p : Parsed) → readingOf sc ≡ number (writtenOf t p) → numberOutcome k s w f radix t p ≡ readScan k s w f radix sc
-  unfolding readingOf numberOutcome readScan writtenOf
-  number-read (at a q x) p e = let same : x ≡ writtenOf t p = cc in ap (λ (y : Written). settle k s w (withSign (y .neg) (rawOf radix f y))) (sym same)
-  number-read (refuse n) p e = let z : _≡_ {A = ℕ} 0 1 = cc in absurd (omega arith)
-
-  refused-read : (sc : Scan) (n : ℕ) → readingOf sc ≡ unread n → refused n ≡ readScan k s w f radix sc
-  unfolding readingOf readScan
-  refused-read (at a q x) n e = let z : _≡_ {A = ℕ} 0 1 = cc in absurd (omega arith)
-  refused-read (refuse m) n e = let same : m ≡ n = cc in ap refused (sym same)
-
-  found-at : (found : Found) (sc : Scan) {y : Reading} → y ≡ readingOf sc → Finds t found y → foundOutcome k s w f radix t found ≡ readScan k s w f radix sc
-  unfolding foundOutcome
-  found-at (Number p) sc q (finds e r) = number-read sc p (sym q ∙ e)
-  found-at (Refused n) sc q (refuses e) = refused-read sc n (sym q ∙ e)
-
-  pub found-outcome : (found : Found) (sc : Scan) → Finds t found (readingOf sc) → foundOutcome k s w f radix t found ≡ readScan k s w f radix sc
-  found-outcome found sc h = found-at found sc refl h
+  pub found-outcome : (found : Found) {y : Reading} → Finds t found y → foundOutcome k s w f radix t found ≡ outcomeOf k s w f radix y
+  unfolding foundOutcome numberOutcome outcomeOf writtenOf
+  found-outcome (Number p) (finds e r) = ap (outcomeOf k s w f radix) (sym e)
+  found-outcome (Refused n) (refuses e) = ap (outcomeOf k s w f radix) (sym e)
 
 -- and a number that was found can be read
 module _ (t : List ℕ) (radix frac : ℕ) (legal : isRadix radix ≡ true) (short : length t ≤ textLimit) (room : frac ≤ 64) where
-  readable : (sc : Scan) (p : Parsed) → Ends radix sc → Ready t p → readingOf sc ≡ number (writtenOf t p) → Readable t p radix frac
-  unfolding readingOf
-  readable (at a q x) p (ends-at h) r e =
-      let same : x ≡ writtenOf t p = cc in
-      record { place = a; seen = q; sound = subst (Sound radix a q) same h; ready = r; legal = legal; short = short; room = room }
-  readable (refuse n) p h r e = let z : _≡_ {A = ℕ} 0 1 = cc in absurd (omega arith)
-
-  sane-at : (found : Found) (sc : Scan) {y : Reading} → y ≡ readingOf sc → Ends radix sc → Finds t found y → Sane t radix frac found
-  sane-at (Number p) sc q h (finds e r) = sane (readable sc p h r (sym q ∙ e))
-  sane-at (Refused n) sc q h (refuses e) = no-number
-
-  pub found-sane : (found : Found) (sc : Scan) → Ends radix sc → Finds t found (readingOf sc) → Sane t radix frac found
-  found-sane found sc h f = sane-at found sc refl h f
+  pub found-sane : (found : Found) {y : Reading} → Says radix y → Finds t found y → Sane t radix frac found
+  found-sane (Number p) h (finds e r) =
+      let numbered = says-numbered (subst (Says radix) e h) in
+      sane (record { place = numbered .part; seen = numbered .seen; sound = numbered .sound; ready = r; legal = legal; short = short; room = room })
+  found-sane (Refused n) h (refuses e) = no-number
 
 pub sane-number : {t : List ℕ} {radix frac : ℕ} {p : Parsed} → Sane t radix frac (Number p) → Readable t p radix frac
 sane-number (sane r) = r
@@ -205,30 +184,30 @@ sane-at-number {t} {radix} {frac} h e = sane-number (subst (Sane t radix frac) e
 module _ (s : Sign) (w f : ℕ) (t : List ℕ) {fault : ℕ} where
   module _ (radix : ℕ) (e : fault ≡ earlyPlain w f radix (length t)) where
     pub plain-refused : (k : Manner) → (fault ≡ 0 → ⊥) → readOf k s w f radix t ≡ refused fault
-    plain-refused k h = sym (plain-early k s w f radix t) ∙ unless-fault (earlyPlain w f radix (length t)) (readScan k s w f radix (plainScan radix t)) (λ z. h (e ∙ z)) ∙ ap refused (sym e)
+    plain-refused k h = sym (plain-early k s w f radix t) ∙ unless-fault (earlyPlain w f radix (length t)) (outcomeOf k s w f radix (plainReading radix t)) (λ z. h (e ∙ z)) ∙ ap refused (sym e)
 
-    pub plain-reads : (k : Manner) (found : Found) → fault ≡ 0 → Finds t found (readingOf (plainScan radix t)) → foundOutcome k s w f radix t found ≡ readOf k s w f radix t
+    pub plain-reads : (k : Manner) (found : Found) → fault ≡ 0 → Finds t found (plainReading radix t) → foundOutcome k s w f radix t found ≡ readOf k s w f radix t
     plain-reads k found z h =
-        found-outcome k s w f radix t found (plainScan radix t) h
-        ∙ sym (unless-none (earlyPlain w f radix (length t)) (readScan k s w f radix (plainScan radix t)) (sym e ∙ z)) ∙ plain-early k s w f radix t
+        found-outcome k s w f radix t found h
+        ∙ sym (unless-none (earlyPlain w f radix (length t)) (outcomeOf k s w f radix (plainReading radix t)) (sym e ∙ z)) ∙ plain-early k s w f radix t
 
-    pub plain-sane : (found : Found) → fault ≡ 0 → Finds t found (readingOf (plainScan radix t)) → Sane t radix f found
+    pub plain-sane : (found : Found) → fault ≡ 0 → Finds t found (plainReading radix t) → Sane t radix f found
     plain-sane found z h =
         let fine = plain-fine w f radix (length t) (sym e ∙ z) in
-        found-sane t radix f (fine .1) (fine .0 .short) (fine .0 .room) found (plainScan radix t) (plain-ends radix t) h
+        found-sane t radix f (fine .1) (fine .0 .short) (fine .0 .room) found (plain-says radix t) h
 
   module _ (e : fault ≡ earlyLiteral w f (length t)) where
     pub literal-refused : (fault ≡ 0 → ⊥) → literalOf s w f t ≡ refused fault
-    literal-refused h = sym (literal-early s w f t) ∙ unless-fault (earlyLiteral w f (length t)) (readScan Strict s w f (literalRadix s t) (literalScan s t)) (λ z. h (e ∙ z)) ∙ ap refused (sym e)
+    literal-refused h = sym (literal-early s w f t) ∙ unless-fault (earlyLiteral w f (length t)) (outcomeOf Strict s w f (literalRadix s t) (literalReading s t)) (λ z. h (e ∙ z)) ∙ ap refused (sym e)
 
     pub literal-reads : {r : LiteralWritten} → fault ≡ 0 → FindsLiteral s t r → foundOutcome Strict s w f (r .radix) t (r .found) ≡ literalOf s w f t
     literal-reads {r} z h =
         ap (λ (n : ℕ). foundOutcome Strict s w f n t (r .found)) (h .radix)
-        ∙ found-outcome Strict s w f (literalRadix s t) t (r .found) (literalScan s t) (h .found)
-        ∙ sym (unless-none (earlyLiteral w f (length t)) (readScan Strict s w f (literalRadix s t) (literalScan s t)) (sym e ∙ z)) ∙ literal-early s w f t
+        ∙ found-outcome Strict s w f (literalRadix s t) t (r .found) (h .found)
+        ∙ sym (unless-none (earlyLiteral w f (length t)) (outcomeOf Strict s w f (literalRadix s t) (literalReading s t)) (sym e ∙ z)) ∙ literal-early s w f t
 
     pub literal-sane : {r : LiteralWritten} → fault ≡ 0 → FindsLiteral s t r → Sane t (r .radix) f (r .found)
     literal-sane {r} z h =
         let fine = literal-fine w f (length t) (sym e ∙ z) in
         subst (λ (n : ℕ). Sane t n f (r .found)) (sym (h .radix))
-        (found-sane t (literalRadix s t) f (prefix-legal (literalBody s t)) (fine .short) (fine .room) (r .found) (literalScan s t) (literal-ends s t) (h .found))
+        (found-sane t (literalRadix s t) f (prefix-legal (literalBody s t)) (fine .short) (fine .room) (r .found) (literal-says s t) (h .found))

@@ -11,7 +11,8 @@ use lib.ListN.{length, take, drop, replicate, length-append, length-replicate}
 use lib.Pow.{pow-add, pow-pos}
 use lib.Seq.{take-length}
 use Rattle.laws.specs.Nearest.{nearestEven}
-use Rattle.grammar.specs.Meaning.{digitOf, natOf, rawOf}
+use Rattle.grammar.specs.Meaning.{digitOf, rawOf}
+use Rattle.grammar.specs.Rounding.{natOf}
 use Rattle.text.specs.declared.fold.Folded.{Folded}
 use Rattle.text.specs.declared.fold.Order.{Order}
 use Rattle.text.specs.declared.fold.Order.the-variants.{Less, Same, More}

@@ -14,8 +14,7 @@ use borrow.Author.Tests.{ne-eqb, eq-eqb, le-leb}
 use Rattle.format.specs.declared.Manner.the-variants.{Strict}
 use Rattle.format.specs.Meaning.{signed, done, faultOf, isWidth, signedAnswer, numberS, valueS}
 use Rattle.format.specs.Theorems.{InRange}
-use Rattle.grammar.specs.Meaning.{isSign, prefixMark, prefixRadix, literalMinus, literalRadix}
-use Rattle.grammar.specs.Readers.{literalOf}
+use Rattle.grammar.specs.Meaning.{isSign, prefixMark, prefixRadix, literalMinus, literalRadix, literalOf}
 use Rattle.grammar.specs.Literals.{Opens}
 use Rattle.grammar.specs.Theorems.{literal-plain}
 use Rattle.decimal.specs.Meaning.{byteOf, fractionDigits, minus, textOf, rawText}

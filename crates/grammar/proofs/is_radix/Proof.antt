@@ -1,6 +1,6 @@
 -- `grammar::is_radix` meets its contract, by the tests. Assumes nothing.
 use Rattle.laws.specs.Rules.{tests}
-use Rattle.grammar.specs.Readers.{isRadix}
+use Rattle.grammar.specs.Meaning.{isRadix}
 use Rattle.grammar.proofs.is_radix.Statement.{statement}
 use Rattle.grammar.proofs.is_radix.Tie as tie
 

@@ -5,9 +5,9 @@ use mathlib.Core.Path.{_≡_, _∙_, refl, sym}
 use native.Mathlib.Omega.{arith}
 use borrow.Author.Needs.{needs}
 use lib.ListN.{length, drop}
-use Rattle.grammar.specs.Meaning.{at, exponent, sign}
-use Rattle.grammar.specs.Run.{sepOf}
+use Rattle.grammar.specs.Automaton.{at, exponent, sign}
 use Rattle.grammar.specs.Reading.{reading, expAt, exp-bound}
+use Rattle.grammar.specs.Run.{sepOf}
 use Rattle.grammar.specs.Found.{writtenOf, Ready, exp-next, exp-stop, exp-over, finds-exp-end}
 use Rattle.grammar.proofs.scan.exp_run.Statement.{statement}
 use Rattle.grammar.proofs.scan.exp_run.Tie as tie

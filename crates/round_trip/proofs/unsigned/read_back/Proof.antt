@@ -3,7 +3,7 @@ use mathlib.Core.Path.{sym, ap, _∙_}
 use mathlib.Core.List.{List}
 use Prim.Native.Nat.{ℕ}
 use Rattle.format.specs.Meaning.{unsigned, unsignedAnswer}
-use Rattle.grammar.specs.Readers.{readOf}
+use Rattle.grammar.specs.Meaning.{readOf}
 use Rattle.round_trip.specs.Again.{taken-length, all-taken}
 use borrow.Author.Needs.{needs}
 use Rattle.round_trip.proofs.unsigned.read_back.Statement.{statement}
