@@ -26,8 +26,9 @@ use Rattle.format.specs.Theorems.{InRange, limit, limit-span, in-fits, settle-f
 use Rattle.format.specs.Fault.{fault-free, width-bounds}
 use Rattle.format.specs.Place.{fits-place}
 use Rattle.digits.specs.Meaning.{digitsOf}
-use Rattle.grammar.specs.Meaning.{digitOf, Written, num, den, rawOf, isRadix, readOf}
-use Rattle.grammar.specs.Automaton.{isDigit, Part, whole, fraction, Seen, nothing, sign, digit, Scan, at, refuse, Error, blank, step, scan, ended, finish, plainScan}
+use Rattle.grammar.specs.Meaning.{digitOf, Written, Reading, number, unread, plainReading, num, den, rawOf, isRadix, readOf}
+use Rattle.grammar.specs.Automaton.{isDigit, Part, whole, fraction, Seen, nothing, sign, digit, at, Error, blank, onSign, onPoint, step, scan, ended, finish, plainScan, readingOf}
+use Rattle.grammar.specs.Agrees.{plain-scanned}
 use Rattle.grammar.specs.Rounding.{natOf}
 use Rattle.grammar.specs.Class.{digit-ten}
 use Rattle.grammar.specs.Accepted.{scan-append}
@@ -135,12 +136,12 @@ partFor [] = whole
 partFor (d ∷ ds) = fraction
 
 after-sign : (neg : Bool) (t : List ℕ) → (q : Seen) × (scan Error 10 (minus neg ++ t) (at whole nothing (blank false)) ≡ scan Error 10 t (at whole q (blank neg)))
-unfolding minus scan step ifFirst
+unfolding minus scan step onSign
 after-sign true t = (sign, refl)
 after-sign false t = (nothing, refl)
 
 after-point : (neg : Bool) (ws : List ℕ) {fs : List ℕ} → Digits fs → scan Error 10 (pointed fs) (at whole digit (withDigits false (blank neg) ws)) ≡ at (partFor fs) digit (written neg ws fs)
-unfolding pointed scan step
+unfolding pointed scan step onPoint
 after-point neg ws none = ap (λ (ds : List ℕ). at whole digit (record { neg = neg; digits = ds; after = 0; base = 1; down = false; exp = 0 })) (sym (append-nil ws))
 after-point neg ws (more {d} {ds} h r) =
     scan-digits true (more h r) nothing (withDigits false (blank neg) ws)
@@ -160,7 +161,7 @@ finished [] x h = rw (ne-eqb (length (x .digits)) 0 (λ z. omega arith))
 finished (d ∷ fs) x h = rw (ne-eqb (length (x .digits)) 0 (λ z. omega arith))
 
 module _ {neg : Bool} {ws fs : List ℕ} (form : Form neg ws fs) where
-  pub form-scan : plainScan 10 (formText neg ws fs) ≡ at (partFor fs) digit (written neg ws fs)
+  form-scan : plainScan 10 (formText neg ws fs) ≡ at (partFor fs) digit (written neg ws fs)
   unfolding plainScan formText
   form-scan =
       let s = after-sign neg (map byteOf ws ++ pointed fs) in
@@ -170,6 +171,10 @@ module _ {neg : Bool} {ws fs : List ℕ} (form : Form neg ws fs) where
       ∙ ap (scan Error 10 (pointed fs)) (whole-scan (form .leads) (form .whole-digits) (s .0) (blank neg))
       ∙ after-point neg ws (form .fraction-digits))
       ∙ finished fs (written neg ws fs) (omega (arith, length-append ws fs, some-whole (form .leads)))
+
+  pub form-reads : plainReading 10 (formText neg ws fs) ≡ number (written neg ws fs)
+  unfolding readingOf
+  form-reads = plain-scanned 10 (formText neg ws fs) ∙ ap readingOf form-scan
 
   -- a number that the format holds is read without rounding
   module _ (m f : ℕ) (w : Writes ws fs m f) where
@@ -213,7 +218,7 @@ module _ (k : Manner) (s : Sign) (w f : ℕ) (format : faultOf w f ≡ 0) where
       let small = magnitude-word s w neg m some (bounds .1) range in
       let size : length (formText neg ws fs) ≤ 67 = rw (only neg ws fs m f form writes) (text-length neg m f small (omega (arith, bounds, free .1))) in
       let taken : Taken w f 10 (formText neg ws fs) (written neg ws fs) =
-      record { format = format; legal = ten; short = omega (arith, size); part = partFor fs; seen = digit; scanned = form-scan form } in
+      record { format = format; legal = ten; short = omega (arith, size); scanned = form-reads form } in
       read-as taken k s ∙ ap (λ (v : ℕ). settle k s w (withSign neg v)) (raw-exact form m f writes) ∙ settle-fits s w (withSign neg m) k some range
 
   read-text : (neg : Bool) (m : ℕ) → (neg ≡ true → 0 < m) → InRange s w (withSign neg m) → readOf k s w f 10 (textOf neg m f) ≡ done (withSign neg m) false
@@ -232,22 +237,22 @@ module _ (k : Manner) (s : Sign) (w f : ℕ) (format : faultOf w f ≡ 0) where
       (read-form neg ws fs m form writes range, sign-text neg m f (not-zero form m f writes) ∙ sym (only neg ws fs m f form writes))
 
 -- ---- One raw: what is written the same is the same, for every F and every raw.
-abbrev numberOf : ℕ → Scan → ℤ
-numberOf f (at p q x) = withSign (x .neg) (rawOf 10 f x)
-numberOf f (refuse n) = pos 0
+abbrev numberOf : ℕ → Reading → ℤ
+numberOf f (number x) = withSign (x .neg) (rawOf 10 f x)
+numberOf f (unread n) = pos 0
 
-text-number : (neg : Bool) (m f : ℕ) → (neg ≡ true → 0 < m) → numberOf f (plainScan 10 (textOf neg m f)) ≡ withSign neg m
+text-number : (neg : Bool) (m f : ℕ) → (neg ≡ true → 0 < m) → numberOf f (plainReading 10 (textOf neg m f)) ≡ withSign neg m
 text-number neg m f h =
     let form = form-of neg m f h in
-    ap (λ (t : List ℕ). numberOf f (plainScan 10 t)) (text-form neg m f) ∙ ap (numberOf f) (form-scan form) ∙ ap (withSign neg) (raw-exact form m f (digits-write m f))
+    ap (λ (t : List ℕ). numberOf f (plainReading 10 t)) (text-form neg m f) ∙ ap (numberOf f) (form-reads form) ∙ ap (withSign neg) (raw-exact form m f (digits-write m f))
 
-raw-number : (raw : ℤ) (f : ℕ) → numberOf f (plainScan 10 (rawText raw f)) ≡ raw
+raw-number : (raw : ℤ) (f : ℕ) → numberOf f (plainReading 10 (rawText raw f)) ≡ raw
 unfolding rawText withSign
 raw-number (pos n) f = text-number false n f (λ e. absurd (false≢true e))
 raw-number (negsuc n) f = text-number true (suc n) f (λ e. omega arith)
 
 pub same-text : (f : ℕ) (a b : ℤ) → rawText a f ≡ rawText b f → a ≡ b
-same-text f a b e = sym (raw-number a f) ∙ ap (λ (t : List ℕ). numberOf f (plainScan 10 t)) e ∙ raw-number b f
+same-text f a b e = sym (raw-number a f) ∙ ap (λ (t : List ℕ). numberOf f (plainReading 10 t)) e ∙ raw-number b f
 
 -- ---- From the promise of a writer alone: what it is done with is the text of the raw, and reading it gives the raw back.
 module _ (raw : ℤ) (w f : ℕ) (out left : List ℕ) (n : ℕ) (flag : Bool) where

@@ -9,7 +9,7 @@ use Rattle.laws.specs.Nearest.{nearestEven, nearestBy}
 use Rattle.laws.specs.Text.{bytes}
 use Rattle.format.specs.Meaning.{isWidth, faultOf, lowest, highest, fits, settle, withSign, signedAnswer, numberS, valueS}
 use Rattle.format.specs.Meaning.{unless as unlessFault}
-use Rattle.grammar.specs.Meaning.{digitOf, isMark, prefixMark, prefixRadix, dropUnderscores, literalMinus, natFrom, num, den, rawOf, literalOf}
+use Rattle.grammar.specs.Meaning.{digitOf, isMark, exponentFrom, digitsFrom, prefixMark, prefixRadix, dropUnderscores, literalMinus, literalReading, natFrom, num, den, rawOf, outcomeOf, literalOf}
 use Rattle.filter.specs.Promise.{unless}
 use Rattle.fitting.specs.declared.FileAnswer.{FileAnswer}
 use Rattle.fitting.specs.declared.FileAnswer.the-variants.{Done, Refused, Line}

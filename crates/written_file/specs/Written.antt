@@ -15,6 +15,7 @@ use Rattle.format.specs.declared.Manner.the-variants.{Strict}
 use Rattle.format.specs.Meaning.{signed, done, faultOf, isWidth, signedAnswer, numberS, valueS}
 use Rattle.format.specs.Theorems.{InRange}
 use Rattle.grammar.specs.Meaning.{isSign, prefixMark, prefixRadix, literalMinus, literalRadix, literalOf}
+use Rattle.grammar.specs.Literal.{short-prefix, same-either}
 use Rattle.grammar.specs.Literals.{Opens}
 use Rattle.grammar.specs.Theorems.{literal-plain}
 use Rattle.decimal.specs.Meaning.{byteOf, fractionDigits, minus, textOf, rawText}
@@ -94,13 +95,9 @@ mark-ten b h = rw (ne-eqb b 98 (λ e. omega arith), ne-eqb b 111 (λ e. omega ar
 
 prefix-ten : {t : List ℕ} → Bytes t → prefixRadix t ≡ 10
 unfolding prefixRadix
-prefix-ten no-byte = refl
-prefix-ten (one-byte h k no-byte) = refl
-prefix-ten (one-byte {b = a} h k (one-byte {b} i j p)) = rw (mark-ten b j) (same (eqb a 48))
-  where
-    same : (c : Bool) → _≡_ {A = ℕ} (cond c 10 10) 10
-    same true = refl
-    same false = refl
+prefix-ten no-byte = sym (short-prefix [] (omega arith))
+prefix-ten (one-byte {b = a} h k no-byte) = sym (short-prefix (a ∷ []) (omega arith))
+prefix-ten (one-byte {b = a} h k (one-byte {b} i j p)) = rw (mark-ten b j) (sym (same-either (eqb a 48)))
 
 radix-ten : {t : List ℕ} → Bytes t → literalRadix signed t ≡ 10
 unfolding literalMinus
