@@ -9,7 +9,7 @@ use borrow.Author.Tests.{eqb-true, ltb-true}
 use Rattle.format.specs.declared.Manner.{Manner}
 use Rattle.format.specs.declared.Manner.the-variants.{Strict}
 use Rattle.format.specs.Meaning.{Sign, Outcome, refused, unless, faultOf, settle, withSign}
-use Rattle.grammar.specs.Meaning.{digitOf, isSign, isMark, Written, Reading, number, unread, expLimit, atEnd, afterSign, underscore, exponentFrom, digitsFrom, plainReading}
+use Rattle.grammar.specs.Meaning.{digitOf, isSign, isMark, Written, Reading, number, unread, expLimit, atEnd, afterSign, exponentFrom, digitsFrom, plainReading}
 use Rattle.grammar.specs.Meaning.{literalMinus, literalBody, afterPrefix, literalRadix, literalReading, outcomeOf, isRadix, textLimit, readOf, literalOf}
 use Rattle.grammar.specs.Automaton.{isDigit, baseOf, blank, withDigit, withBase, Part, whole, fraction, exponent, Seen, nothing, sign, digit, Scan, at, refuse, Sep, Skip, Error}
 use Rattle.grammar.specs.Automaton.{onSign, onPoint, invalid, onUnderscore, onMark, onOther, plainScan, literalScan, readingOf, readScan}
@@ -33,6 +33,10 @@ point-mark : (radix : ℕ) → isMark radix 46 ≡ false
 unfolding isMark
 point-mark radix = refl
 
+-- what the meaning does with `_`
+abbrev underscore : Bool → Bool → ℕ → Reading → Reading
+underscore skip seen n rest = cond skip (cond seen rest (unread 14)) (unread n)
+
 module _ (skip : Bool) (radix : ℕ) where
   abbrev k : Sep
   k = sepOf skip
@@ -45,7 +49,7 @@ module _ (skip : Bool) (radix : ℕ) where
       y : Written
       y = record { neg = x .neg; digits = x .digits; after = x .after; base = x .base; down = x .down; exp = e }
 
-      go : (z seen : Bool) → cond z (unread 11) (cond seen (number y) (unread 17)) ≡ expEnd z seen y
+      go : (z seen : Bool) → cond z (unread 11) (cond (not seen) (unread 17) (number y)) ≡ expEnd z seen y
       go true seen = refl
       go false true = refl
       go false false = refl
@@ -55,7 +59,7 @@ module _ (skip : Bool) (radix : ℕ) where
     abbrev onExpByte : Bool → Reading → Reading → Reading
     onExpByte seen o v =
         cond (isSign b) (unread 12)
-        (cond (eqb b 95) (underscore skip radix seen 16 o)
+        (cond (eqb b 95) (underscore skip seen 16 o)
         (cond (isMark radix b) (unread 18)
         (cond (not (isDigit 10 b)) (unread 16)
         (cond (not (leb (e * 10 + digitOf b) (expLimit (x .down)))) (unread 19) v))))
@@ -74,7 +78,7 @@ module _ (skip : Bool) (radix : ℕ) where
         go true = more
         go false = sym (read-refused k radix t 19)
 
-    under-agrees : (skip seen : Bool) {o : Reading} → o ≡ reading (sepOf skip) radix t (expAt seen x e) → underscore skip radix seen 16 o ≡ reading (sepOf skip) radix t (expScan (expUnder skip seen e) x)
+    under-agrees : (skip seen : Bool) {o : Reading} → o ≡ reading (sepOf skip) radix t (expAt seen x e) → underscore skip seen 16 o ≡ reading (sepOf skip) radix t (expScan (expUnder skip seen e) x)
     unfolding expUnder expScan
     under-agrees true true same = same
     under-agrees true false same = sym (read-refused Skip radix t 14)
@@ -85,7 +89,7 @@ module _ (skip : Bool) (radix : ℕ) where
     other-agrees seen o v same h = rw h (go (isSign b) (eqb b 46) (eqb b 95) (isMark radix b) refl refl refl)
       where
         go : (s d u m : Bool) → eqb b 46 ≡ d → eqb b 95 ≡ u → isMark radix b ≡ m
-            → cond s (unread 12) (cond u (underscore skip radix seen 16 o) (cond m (unread 18) (unread 16)))
+            → cond s (unread 12) (cond u (underscore skip seen 16 o) (cond m (unread 18) (unread 16)))
             ≡ after (expOther (cond s SignByte (cond d Point (cond u Underscore (cond m (Mark (baseOf radix b)) Other)))) skip seen e)
         go true d u m p q r = sym (read-refused k radix t 12)
         go false true true m p q r = absurd (true≢false (sym q ∙ ap (λ (c : ℕ). eqb c 95) (eqb-true b 46 p)))
@@ -154,7 +158,7 @@ module _ (skip : Bool) (radix : ℕ) where
     point-agrees false same = same
 
     separator-agrees : (skip point seen : Bool) {o : Reading} → o ≡ reading (sepOf skip) radix t (at (partOf point) (seenOf point seen) x)
-        → underscore skip radix seen 13 o ≡ reading (sepOf skip) radix t (onUnderscore (sepOf skip) (partOf point) (seenOf point seen) x)
+        → underscore skip seen 13 o ≡ reading (sepOf skip) radix t (onUnderscore (sepOf skip) (partOf point) (seenOf point seen) x)
     unfolding onUnderscore
     separator-agrees true point true same = same
     separator-agrees true true false same = sym (read-refused Skip radix t 14)
@@ -186,7 +190,7 @@ module _ (skip : Bool) (radix : ℕ) where
         → v ≡ rest (at (partOf point) digit (withDigit x (digitOf b) (cond point 1 0)))
         → cond (isSign b) (unread 12)
         (cond (eqb b 46) (cond point (unread 15) p)
-        (cond (eqb b 95) (underscore skip radix seen 13 o)
+        (cond (eqb b 95) (underscore skip seen 13 o)
         (cond (isMark radix b) (exponentFrom skip radix neg ds after (baseOf radix b) (eqb (getD t 0 0) 45) 0 false (afterSign t))
         (cond (not (isDigit radix b)) (unread 13) v))))
         ≡ reading k radix (b ∷ t) (at (partOf point) (seenOf point seen) x)
@@ -196,7 +200,7 @@ module _ (skip : Bool) (radix : ℕ) where
         go : (s d u m : Bool) →
             cond s (unread 12)
             (cond d (cond point (unread 15) p)
-            (cond u (underscore skip radix seen 13 o)
+            (cond u (underscore skip seen 13 o)
             (cond m (exponentFrom skip radix neg ds after (baseOf radix b) (eqb (getD t 0 0) 45) 0 false (afterSign t))
             (cond (not (isDigit radix b)) (unread 13) v))))
             ≡ rest (onClass (cond s SignByte (cond d Point (cond u Underscore (cond m (Mark (baseOf radix b)) Other)))) k radix b (partOf point) (seenOf point seen) x)

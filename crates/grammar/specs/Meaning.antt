@@ -1,5 +1,5 @@
--- What a text means: which texts are numbers, which number each is, which raw it gives, and what is refused. Written
--- from docs/GRAMMAR.md, which is S's grammar (`parse_bounds`, `lit`), and from document 01, module 2. Assumes nothing.
+-- What a text means: which texts are numbers, which number each is, which raw it gives, what is refused.
+-- From docs/GRAMMAR.md (S's `parse_bounds` and `lit`) and from document 01, module 2. Assumes nothing.
 use mathlib.Core.Bool.{Bool, true, false, cond, _&&_, _||_, not}
 use mathlib.Core.List.{List, [], _∷_, _++_}
 use Prim.Native.Nat.{ℕ, _+_, _-_, _*_, _^_}
@@ -8,27 +8,27 @@ use lib.ListN.{length, drop, getD}
 use Rattle.laws.specs.Nearest.{nearestEven}
 use Rattle.format.specs.declared.Manner.{Manner}
 use Rattle.format.specs.declared.Manner.the-variants.{Strict}
-use Rattle.format.specs.Meaning.{Sign, signed, unsigned, Outcome, refused, unless, faultOf, settle, withSign}
+use Rattle.format.specs.Meaning.{Sign, signed, unsigned, withSign, Outcome, refused, unless, faultOf, settle}
 
--- A byte as a digit: `0` to `9`, `a` to `f`, `A` to `F`; 16 for any other, which is no digit in any radix.
+-- A byte as a digit: `0` to `9`, `a` to `f`, `A` to `F`; 16 for any other, which is a digit in no radix.
 unfoldable pub digitOf : ℕ → ℕ
 digitOf b =
     cond (leb 48 b && leb b 57) (b - 48)
-    (cond (leb 97 b && leb b 102) (b - 87)
-    (cond (leb 65 b && leb b 70) (b - 55) 16))
+    (cond (leb 97 b && leb b 102) (b - 87) (cond (leb 65 b && leb b 70) (b - 55) 16))
 
 abbrev pub isSign : ℕ → Bool
 isSign b = eqb b 43 || eqb b 45
 
--- Exponent marks: `@` in every radix; `e`, `E` in 2, 8, 10; `p`, `P` in 2, 8, 16. These two scale by 2, else the radix does.
+-- Exponent marks: `@` in every radix; `e`, `E` in 2, 8, 10; `p`, `P` in 2, 8, 16, and these scale by 2.
 abbrev pub isBitMark : ℕ → Bool
 isBitMark b = eqb b 112 || eqb b 80
 
 unfoldable pub isMark : ℕ → ℕ → Bool
-isMark radix b = eqb b 64 || ((eqb b 101 || eqb b 69) && not (eqb radix 16)) || (isBitMark b && not (eqb radix 10))
+isMark radix b =
+    eqb b 64 || ((eqb b 101 || eqb b 69) && not (eqb radix 16)) || (isBitMark b && not (eqb radix 10))
 
--- What was read: the sign; the digits, in order, and how many of them came after the point; what the exponent scales
--- by, its sign (`down` for `-`) and its magnitude.
+-- What was read: the sign; the digits, in order, and how many of them came after the point; what the
+-- exponent scales by (1 if there is none), its sign (`down` for `-`) and its magnitude.
 pub record Written : Type 0 where
   pub neg : Bool
   pub digits : List ℕ
@@ -49,45 +49,46 @@ expLimit down = cond down 2147483648 2147483647
 abbrev pub atEnd : Bool → List ℕ → ℕ → ℕ → Bool → ℕ → Bool → Reading
 atEnd neg ds after base down e seen =
     cond (eqb (length ds) 0) (unread 11)
-    (cond seen (number (record { neg = neg; digits = ds; after = after; base = base; down = down; exp = e })) (unread 17))
+    (cond (not seen) (unread 17)
+    (number (record { neg = neg; digits = ds; after = after; base = base; down = down; exp = e })))
 
 -- A sign may stand first in the number and first in the exponent; elsewhere it is misplaced (12).
 abbrev pub afterSign : List ℕ → List ℕ
 afterSign t = cond (isSign (getD t 0 0)) (drop 1 t) t
 
--- From the left, byte by byte; `seen` tells whether a digit of the part was read. The literal reader skips `_` after one,
--- and before it `_` is misplaced (14); to the plain reader it is a byte that has no place.
+-- From the left, byte by byte; `seen`: a digit of the part was read. The literal reader (`skip`) passes over
+-- `_` after one, and before it `_` is misplaced (14); to the plain reader `_` is a byte with no place.
 module _ (skip : Bool) (radix : ℕ) where
-  abbrev pub underscore : Bool → ℕ → Reading → Reading
-  underscore seen n rest = cond skip (cond seen rest (unread 14)) (unread n)
-
-  -- The exponent: no second mark (18), decimal digits up to the limit (19), or a byte that has no place (16).
+  -- The exponent: no second mark (18), decimal digits up to the limit (19), else a byte with no place (16).
   unfoldable pub exponentFrom : Bool → List ℕ → ℕ → ℕ → Bool → ℕ → Bool → List ℕ → Reading
   exponentFrom neg ds after base down e seen [] = atEnd neg ds after base down e seen
   exponentFrom neg ds after base down e seen (b ∷ t) =
       cond (isSign b) (unread 12)
-      (cond (eqb b 95) (underscore seen 16 (exponentFrom neg ds after base down e seen t))
+      (cond (eqb b 95)
+      (cond skip (cond seen (exponentFrom neg ds after base down e seen t) (unread 14)) (unread 16))
       (cond (isMark radix b) (unread 18)
       (cond (not (ltb (digitOf b) 10)) (unread 16)
       (cond (not (leb (e * 10 + digitOf b) (expLimit down))) (unread 19)
       (exponentFrom neg ds after base down (e * 10 + digitOf b) true t)))))
 
-  -- The digits: one point (15), one mark, digits of the radix, or a byte that has no place (13).
+  -- The digits: one point (15), one mark, digits of the radix, else a byte with no place (13).
   unfoldable pub digitsFrom : Bool → List ℕ → ℕ → Bool → Bool → List ℕ → Reading
   digitsFrom neg ds after point seen [] = atEnd neg ds after 1 false 0 true
   digitsFrom neg ds after point seen (b ∷ t) =
       cond (isSign b) (unread 12)
       (cond (eqb b 46) (cond point (unread 15) (digitsFrom neg ds after true false t))
-      (cond (eqb b 95) (underscore seen 13 (digitsFrom neg ds after point seen t))
-      (cond (isMark radix b) (exponentFrom neg ds after (cond (isBitMark b) 2 radix) (eqb (getD t 0 0) 45) 0 false (afterSign t))
+      (cond (eqb b 95)
+      (cond skip (cond seen (digitsFrom neg ds after point seen t) (unread 14)) (unread 13))
+      (cond (isMark radix b)
+      (exponentFrom neg ds after (cond (isBitMark b) 2 radix) (eqb (getD t 0 0) 45) 0 false (afterSign t))
       (cond (not (ltb (digitOf b) radix)) (unread 13)
       (digitsFrom neg (ds ++ (digitOf b ∷ [])) (after + cond point 1 0) point true t)))))
 
 unfoldable pub plainReading : ℕ → List ℕ → Reading
 plainReading radix t = digitsFrom false radix (eqb (getD t 0 0) 45) [] 0 false false (afterSign t)
 
--- A literal: `-` only for signed formats; then a prefix `0b`, `0o`, `0x` with `_` right after, without which the radix
--- is 10; then digits as of a text whose sign was read.
+-- A literal: `-` only for signed formats; then a prefix `0b`, `0o`, `0x` with `_` right after, or else the
+-- radix is 10; then digits as of a text whose sign was read.
 unfoldable pub literalMinus : Sign → List ℕ → Bool
 literalMinus signed t = eqb (getD t 0 0) 45
 literalMinus unsigned t = false
@@ -112,9 +113,10 @@ abbrev pub literalRadix : Sign → List ℕ → ℕ
 literalRadix s t = prefixRadix (literalBody s t)
 
 unfoldable pub literalReading : Sign → List ℕ → Reading
-literalReading s t = digitsFrom true (literalRadix s t) (literalMinus s t) [] 0 false false (afterPrefix (literalBody s t))
+literalReading s t =
+    digitsFrom true (literalRadix s t) (literalMinus s t) [] 0 false false (afterPrefix (literalBody s t))
 
--- The number written, |t|, as a fraction of two naturals: the digits over radix^after, times or over base^exp.
+-- The number written, |t|, as a fraction of naturals: the digits over radix^after, times or over base^exp.
 unfoldable pub natFrom : ℕ → List ℕ → ℕ → ℕ
 natFrom radix [] n = n
 natFrom radix (d ∷ ds) n = natFrom radix ds (n * radix + d)
@@ -133,7 +135,8 @@ unfoldable pub outcomeOf : Manner → Sign → ℕ → ℕ → ℕ → Reading �
 outcomeOf k s w f radix (unread n) = refused n
 outcomeOf k s w f radix (number x) = settle k s w (withSign (x .neg) (rawOf radix f x))
 
--- The readers: the format's refusals, 1 and 2, "radix not 2, 8, 10 or 16" (3), "text above 4096 bytes" (4), then the text.
+-- The readers: first the format's refusals, 1 and 2, then "radix not 2, 8, 10 or 16" (3), "text above 4096
+-- bytes" (4), and the text.
 unfoldable pub isRadix : ℕ → Bool
 isRadix r = eqb r 2 || eqb r 8 || eqb r 10 || eqb r 16
 
@@ -144,9 +147,12 @@ unfoldable pub readOf : Manner → Sign → ℕ → ℕ → ℕ → List ℕ →
 readOf k s w f radix t =
     unless (faultOf w f)
     (cond (isRadix radix)
-    (cond (leb (length t) textLimit) (outcomeOf k s w f radix (plainReading radix t)) (refused 4)) (refused 3))
+    (cond (leb (length t) textLimit) (outcomeOf k s w f radix (plainReading radix t)) (refused 4))
+    (refused 3))
 
 unfoldable pub literalOf : Sign → ℕ → ℕ → List ℕ → Outcome
 literalOf s w f t =
     unless (faultOf w f)
-    (cond (leb (length t) textLimit) (outcomeOf Strict s w f (literalRadix s t) (literalReading s t)) (refused 4))
+    (cond (leb (length t) textLimit)
+    (outcomeOf Strict s w f (literalRadix s t) (literalReading s t))
+    (refused 4))
