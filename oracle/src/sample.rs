@@ -47,7 +47,7 @@ pub fn text_sample(seed: u64) {
 
 pub fn log10_sample(seed: u64) {
     println!("# Logarithms, made by: oracle/run FOLDER sample log10 --seed {seed}");
-    println!("# signed, width, frac, number, value, raw");
+    println!("# kind (g), signed, width, frac, number, value, raw");
     let mut random = Random::new(seed);
     for (width, frac) in all_pairs() {
         let mut raws: Vec<u64> = (0..RAWS_PER_FORMAT).map(|_| random.next() >> random.below(64)).collect();
@@ -68,7 +68,7 @@ fn log10_line(raw: i128, format: Format) {
         assert_eq!(of_s, Outcome::Answered(right), "the sample wants S, and S as the model");
     }
     let signed = u8::from(format.signed);
-    println!("{signed} {} {} {} {} {raw}", format.width, format.frac, right.number, right.value);
+    println!("g {signed} {} {} {} {} {raw}", format.width, format.frac, right.number, right.value);
 }
 
 fn every_manner(random: &mut Random, format: Format) {

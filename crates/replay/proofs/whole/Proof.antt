@@ -1,7 +1,7 @@
 -- The loop ends: the pieces that are left are counted down.
 use borrow.Author.Needs.{needs}
-use Rattle.replay_text.proofs.whole.Statement.{statement}
-use Rattle.replay_text.proofs.whole.Tie as tie
+use Rattle.replay.proofs.whole.Statement.{statement}
+use Rattle.replay.proofs.whole.Tie as tie
 
 abbrev Inv-loop : tie.InvT-loop
 Inv-loop fd line₀ text₀ place₀ left₀ line text place left = Unit {0}

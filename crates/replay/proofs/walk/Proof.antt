@@ -2,14 +2,14 @@
 use Prim.Native.Nat.{_-_, _≤_}
 use borrow.Author.Needs.{needs}
 use lib.ListN.{length}
-use Rattle.replay_log10.proofs.walk.Statement.{statement}
-use Rattle.replay_log10.proofs.walk.Tie as tie
+use Rattle.replay.proofs.walk.Statement.{statement}
+use Rattle.replay.proofs.walk.Tie as tie
 
 abbrev Inv-loop : tie.InvT-loop
-Inv-loop bytes line₀ at₀ i₀ line at i = i ≤ length bytes
+Inv-loop bytes line₀ text₀ at₀ i₀ line text at i = i ≤ length bytes
 
 abbrev μ-loop : tie.MeasureT-loop
-μ-loop bytes line₀ at₀ i₀ line at i = length bytes - i
+μ-loop bytes line₀ text₀ at₀ i₀ line text at i = length bytes - i
 
 loop-holds : tie.Need-loop-holds Inv-loop μ-loop
 loop-holds c = search needs

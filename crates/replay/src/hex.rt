@@ -1,13 +1,15 @@
 // The text of a line, two hexadecimal digits a byte.
-const ROOM: usize = 4100;
+
+// The room's: a little more than the longest text that is read, so that a longer one can be stored.
+const DIGITS: u64 = 8200;
 
 // One more digit; how many there are now. An empty text is a `-`, which is none.
-pub(crate) fn put(text: &mut [u8; 4100], digits: usize, b: u8) -> usize {
+pub(crate) fn put(text: &mut [u8; 4100], digits: u64, b: u8) -> u64 {
     if b == b'-' {
         return digits;
     }
-    if digits < 2 * ROOM {
-        let at = digits / 2;
+    if digits < DIGITS {
+        let at = (digits / 2) as usize;
         text[at] = joined(digits % 2, text[at], value(b));
         return digits + 1;
     }
@@ -15,19 +17,11 @@ pub(crate) fn put(text: &mut [u8; 4100], digits: usize, b: u8) -> usize {
 }
 
 // The first digit of a byte stands alone, the second joins it.
-fn joined(second: usize, high: u8, low: u8) -> u8 {
+fn joined(second: u64, high: u8, low: u8) -> u8 {
     if second == 1 {
         return pair(high, low);
     }
     low
-}
-
-// The bytes that so many digits are.
-pub(crate) fn bytes(digits: usize) -> usize {
-    if digits / 2 > ROOM {
-        return ROOM;
-    }
-    digits / 2
 }
 
 fn pair(high: u8, low: u8) -> u8 {
@@ -47,4 +41,9 @@ fn value(b: u8) -> u8 {
         return b - b'a' + 10;
     }
     0
+}
+
+// The bytes that so many digits are.
+pub(crate) fn bytes(digits: u64) -> usize {
+    (digits / 2) as usize
 }
