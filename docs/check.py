@@ -2,8 +2,9 @@
 """Holds docs/PROMISES.md and docs/promises/*.md against the sources; the last line is 'N passed, M failed'.
 
 Every public function of a crate stands in the crate's row and in a table of its page, with the promise that its contract cites; one with a `requires`
-stands among the exceptions, and so does every private module with public functions; every function of a row exists. Files, promises, meanings, theorems,
-`unique` and must-fail edits that are cited exist, and every edit is on a page. The header declares what is exported. In names S stands for either sign."""
+stands among the exceptions; every function of a row exists. No `pub fn` stands in a module without `pub`, and every `pub(crate) fn` with a `requires` stands
+in the table of inner functions, with the files that call it. Files, promises, meanings, theorems, `unique` and must-fail edits that are cited exist, and
+every edit is on a page. The header declares what is exported. In names S stands for either sign."""
 
 import re
 import sys
@@ -15,6 +16,7 @@ INDEX = (ROOT / "docs/PROMISES.md").read_text()
 PAGES = {page.stem: page.read_text() for page in sorted((ROOT / "docs/promises").glob("*.md"))}
 OWNER = {"to_float": "float"}  # pages that are not named after their crate
 FUNCTION = re.compile(r'^pub (?:extern "C" )?fn (\w+)(.*?)(?:^| )\{$', re.M | re.S)
+INNER = re.compile(r"^pub\(crate\) fn (\w+)(.*?)(?:^| )\{$", re.M | re.S)
 PATH = re.compile(r"(?<![\w/.])(?:(?:crates|oracle|docs|include|tests|bindings|specs|proofs|must-fail)/[\w./-]*\w|\w+\.antt)")
 DECLARED = re.compile(r"^\s*(?:(?:pub|unfoldable|abbrev|opaque|record|data) +)*([^\s:]+)", re.M)
 SIGNS = (("S(?=[A-Z])", "Signed", "Unsigned"), ("(?<=_)S(?![a-zA-Z])", "signed", "unsigned"), ("^S(?=-)", "signed", "unsigned"))
@@ -76,12 +78,21 @@ def functions(crate, row):
     for word in words(row.split("|")[2]) if row else []:
         see(word in known, f"docs/PROMISES.md: {word} is no public function of {crate.name}")
     for module in re.findall(r"^mod (\w+);", (crate / "src/lib.rt").read_text(), re.M):
-        inside = FUNCTION.findall((crate / f"src/{module}.rt").read_text())
-        line = re.search(rf"^\| `{crate.name}::{module}` \|(.*)\|(.*)\|$", exceptions, re.M)
-        for bound in (False, True):
-            own = {name for name, contract in inside if ("requires" in contract) == bound}
-            told = set(re.findall(r"\w+", line.group(1 + bound))) if line else set()
-            see(told == own, f"docs/PROMISES.md: inner functions of {crate.name}::{module}: {sorted(told ^ own)}")
+        public_ones = [name for name, _ in FUNCTION.findall((crate / f"src/{module}.rt").read_text())]
+        see(not public_ones, f"crates/{crate.name}/src/{module}.rt: `pub fn` in a module without `pub`: {public_ones}")
+
+
+def inner():
+    """The table of inner functions: a `pub(crate) fn` with a `requires`, and the other files of its crate that call it."""
+    own, told = {}, {}
+    for crate in sorted(lib.parent for lib in CRATES.glob("*/src/lib.rt")):
+        files = {file.stem: re.sub(r"//.*", "", file.read_text()) for file in crate.glob("*.rt")}
+        for module, name in [(module, name) for module in files for name, contract in INNER.findall(files[module]) if "requires" in contract]:
+            own[f"{crate.parent.name}::{module}::{name}"] = sorted(other for other in files if re.search(rf"\b{module}::{name}\(", files[other]))
+    for module, names, callers in re.findall(r"^\| `(\w+::\w+)` \|(.*)\|(.*)\|$", INDEX.split("Other inner functions")[1], re.M):
+        told |= {f"{module}::{name}": sorted(spans(callers)) for name in spans(names)}
+    for full in sorted(own | told):
+        see(told.get(full) == own.get(full), f"docs/PROMISES.md: inner function {full}: called from {own.get(full)}, the table says {told.get(full)}")
 
 
 def paths(page, text, crate):
@@ -120,6 +131,7 @@ def names(page, text, crate):
 rows = {spans(line)[0]: line for line in INDEX.split("## Exceptions")[0].splitlines() if line.startswith("| `")}
 for lib in sorted(CRATES.glob("*/src/lib.rt")):
     functions(lib.parent.parent, rows.get(lib.parent.parent.name, ""))
+inner()
 paths("docs/PROMISES.md", INDEX, None)
 for stem, text in PAGES.items():
     paths(f"docs/promises/{stem}.md", text, CRATES / OWNER.get(stem, stem))

@@ -14,7 +14,7 @@ use format::Manner;
 use format::UnsignedAnswer;
 
 // The low W bits of x.
-pub fn low_bits(x: Number, width: u32) -> u64
+pub(crate) fn low_bits(x: Number, width: u32) -> u64
     requires { ⌜ isWidth width ≡ true ⌝ }
     ensures { λ r. ⌜ r ≡ lowBits width (numberOf x) ⌝ }
 {
@@ -31,7 +31,7 @@ fn value(a: UnsignedAnswer) -> u64
 }
 
 // The n low bytes of x in the other order.
-pub fn swapped(x: u64, n: usize) -> u64
+pub(crate) fn swapped(x: u64, n: usize) -> u64
     requires { ⌜ n ≤ 8 ⌝ }
     ensures { λ r. ⌜ r ≡ fromBe 0 (leBytes n x) ⌝ }
 {
@@ -47,7 +47,7 @@ pub fn swapped(x: u64, n: usize) -> u64
 }
 
 // The number of these bytes, the first one highest.
-pub fn read_be(bytes: &[u8]) -> u64
+pub(crate) fn read_be(bytes: &[u8]) -> u64
     requires { ⌜ length (now bytes) ≤ 8 ⌝ }
     ensures { λ r. ⌜ r ≡ fromBe 0 (now (bytes .entry)) ⌝ }
 {
@@ -61,7 +61,7 @@ pub fn read_be(bytes: &[u8]) -> u64
 }
 
 // The number of these bytes, the first one lowest.
-pub fn read_le(bytes: &[u8]) -> u64
+pub(crate) fn read_le(bytes: &[u8]) -> u64
     requires { ⌜ length (now bytes) ≤ 8 ⌝ }
     ensures { λ r. ⌜ r ≡ fromLe (now (bytes .entry)) ⌝ }
 {
@@ -101,14 +101,14 @@ fn low_byte(x: u64) -> u8
 }
 
 // How many bytes a raw has.
-pub fn size(width: u32) -> usize
+pub(crate) fn size(width: u32) -> usize
     ensures { λ r. ⌜ r ≡ width / 8 ⌝ }
 {
     (width / 8) as usize
 }
 
 // x to the buffer, the lowest byte first. The answer is the number of bytes.
-pub fn to_le(x: Number, width: u32, frac: u32, out: &mut [u8]) -> UnsignedAnswer
+pub(crate) fn to_le(x: Number, width: u32, frac: u32, out: &mut [u8]) -> UnsignedAnswer
     ensures { λ r. ⌜ Stored (littleOf width (numberOf x)) width frac (now (out .entry)) (now (out .exit)) r ⌝ }
 {
     let fault = refusal::of_room(width, frac, out.len());
@@ -124,7 +124,7 @@ pub fn to_le(x: Number, width: u32, frac: u32, out: &mut [u8]) -> UnsignedAnswer
 }
 
 // The same with the highest byte first.
-pub fn to_be(x: Number, width: u32, frac: u32, out: &mut [u8]) -> UnsignedAnswer
+pub(crate) fn to_be(x: Number, width: u32, frac: u32, out: &mut [u8]) -> UnsignedAnswer
     ensures { λ r. ⌜ Stored (bigOf width (numberOf x)) width frac (now (out .entry)) (now (out .exit)) r ⌝ }
 {
     let fault = refusal::of_room(width, frac, out.len());

@@ -21,7 +21,7 @@ pub struct CUnsigned {
     pub value: u64,
 }
 
-pub fn signed(a: SignedAnswer) -> CSigned
+pub(crate) fn signed(a: SignedAnswer) -> CSigned
     ensures { λ r. ⌜ r ≡ signedOf a ⌝ }
 {
     match a {
@@ -38,7 +38,7 @@ pub fn signed(a: SignedAnswer) -> CSigned
     }
 }
 
-pub fn unsigned(a: UnsignedAnswer) -> CUnsigned
+pub(crate) fn unsigned(a: UnsignedAnswer) -> CUnsigned
     ensures { λ r. ⌜ r ≡ unsignedOf a ⌝ }
 {
     match a {
@@ -56,7 +56,7 @@ pub fn unsigned(a: UnsignedAnswer) -> CUnsigned
 }
 
 // Any other number than 1, 2 and 3 is strict.
-pub fn manner(n: u32) -> Manner
+pub(crate) fn manner(n: u32) -> Manner
     ensures { λ r. ⌜ r ≡ mannerOf n ⌝ }
 {
     if n == 1 {

@@ -10,6 +10,7 @@ use native.Mathlib.Nat.{mul-comm}
 use lib.Pow.{pow-pos, pow-add}
 use lib.IntN.{ℤ, pos, _*ℤ_}
 use Rattle.laws.specs.Floor.{IsFloor, floor, shrZ-floor, shrZ-exact, shrZ-shrZ}
+use Rattle.laws.specs.Powers.{power-sub}
 use Rattle.laws.specs.Ring.{*ℤ-assoc}
 use Rattle.format.specs.declared.Manner.{Manner}
 use Rattle.format.specs.Meaning.{Sign, faultOf, settle, unless, done}
@@ -27,20 +28,17 @@ convert-floor ff f a = shrZ-floor (a *ℤ pos (2 ^ f)) (2 ^ ff) (pow-pos ff)
 scaled : (a : ℤ) (k m : ℕ) → 0 < k → floor (a *ℤ pos k) (k * m) ≡ floor a m
 scaled a k m h = sym (shrZ-shrZ (a *ℤ pos k) k m) ∙ ap (λ (z : ℤ). floor z m) (shrZ-exact a k h)
 
-power : (i j : ℕ) → i ≤ j → 2 ^ j ≡ 2 ^ (j - i) * 2 ^ i
-power i j h = let e : j ≡ (j - i) + i = omega arith in ap (λ (k : ℕ). 2 ^ k) e ∙ pow-add 2 (j - i) i
-
 -- the target has the bits: a whole number of steps
 pub steps-more : (ff f : ℕ) (a : ℤ) → ff ≤ f → stepsOf ff f a ≡ a *ℤ pos (2 ^ (f - ff))
 steps-more ff f a h =
-    ap (λ (n : ℕ). floor (a *ℤ pos n) (2 ^ ff)) (power ff f h)
+    ap (λ (n : ℕ). floor (a *ℤ pos n) (2 ^ ff)) (power-sub ff f h)
     ∙ ap (λ (z : ℤ). floor z (2 ^ ff)) (sym (*ℤ-assoc a (pos (2 ^ (f - ff))) (pos (2 ^ ff))))
     ∙ shrZ-exact (a *ℤ pos (2 ^ (f - ff))) (2 ^ ff) (pow-pos ff)
 
 -- it has fewer: the extra bits are dropped
 pub steps-fewer : (ff f : ℕ) (a : ℤ) → f ≤ ff → stepsOf ff f a ≡ floor a (2 ^ (ff - f))
 steps-fewer ff f a h =
-    ap (λ (n : ℕ). floor (a *ℤ pos (2 ^ f)) n) (power f ff h ∙ mul-comm (2 ^ (ff - f)) (2 ^ f))
+    ap (λ (n : ℕ). floor (a *ℤ pos (2 ^ f)) n) (power-sub f ff h ∙ mul-comm (2 ^ (ff - f)) (2 ^ f))
     ∙ scaled a (2 ^ f) (2 ^ (ff - f)) (pow-pos f)
 
 -- ---- exact where the target has the bits: the value is kept, x / 2^f = a / 2^ff
@@ -48,7 +46,7 @@ pub value-kept : (ff f : ℕ) (a : ℤ) → ff ≤ f → stepsOf ff f a *ℤ pos
 value-kept ff f a h =
     ap (λ (z : ℤ). z *ℤ pos (2 ^ ff)) (steps-more ff f a h)
     ∙ *ℤ-assoc a (pos (2 ^ (f - ff))) (pos (2 ^ ff))
-    ∙ ap (λ (n : ℕ). a *ℤ pos n) (sym (power ff f h))
+    ∙ ap (λ (n : ℕ). a *ℤ pos n) (sym (power-sub ff f h))
 
 -- ---- through a format between that has as many fraction bits as the one or the other, the steps are the same
 pub steps-through : (ff fm f : ℕ) (a : ℤ) → (ff ≤ fm) ⊎ (f ≤ fm) → stepsOf fm f (stepsOf ff fm a) ≡ stepsOf ff f a
@@ -62,7 +60,7 @@ steps-through ff fm f a c = pick (decLe ff fm) c
         let turned : (a *ℤ pos x) *ℤ pos y ≡ (a *ℤ pos y) *ℤ pos x =
         *ℤ-assoc a (pos x) (pos y) ∙ ap (λ (n : ℕ). a *ℤ pos n) (mul-comm x y) ∙ sym (*ℤ-assoc a (pos y) (pos x)) in
         ap (λ (z : ℤ). stepsOf fm f z) (steps-more ff fm a h)
-        ∙ ap₂ floor turned (power ff fm h)
+        ∙ ap₂ floor turned (power-sub ff fm h)
         ∙ scaled (a *ℤ pos y) x (2 ^ ff) (pow-pos (fm - ff))
 
     -- the bits are dropped in two turns

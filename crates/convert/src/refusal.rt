@@ -3,7 +3,7 @@ ghost use mathlib.Core.Path.{_≡_};
 ghost use Rattle.convert.specs.Meaning.{formatsFault};
 
 // 1 where either width is none, before 2 where either has more fraction bits than its width.
-pub fn of_formats(from_width: u32, from_frac: u32, width: u32, frac: u32) -> u32
+pub(crate) fn of_formats(from_width: u32, from_frac: u32, width: u32, frac: u32) -> u32
     ensures { λ r. ⌜ r ≡ formatsFault «from_width» «from_frac» width frac ⌝ }
 {
     if !format::is_width(from_width) {

@@ -8,7 +8,7 @@ ghost use Rattle.convert.specs.Meaning.{stepsOf};
 use arith::exact;
 use arith::exact::Exact;
 
-pub fn signed(raw: i64, from_frac: u32, frac: u32) -> Exact
+pub(crate) fn signed(raw: i64, from_frac: u32, frac: u32) -> Exact
     requires { ⌜ («from_frac» ≤ 64) × (frac ≤ 64) ⌝ }
     ensures { λ r. ⌜ exactOf r ≡ stepsOf «from_frac» frac raw ⌝ }
 {
@@ -18,7 +18,7 @@ pub fn signed(raw: i64, from_frac: u32, frac: u32) -> Exact
     exact::of_number(exact::of_signed(drop_signed(raw, from_frac - frac)))
 }
 
-pub fn unsigned(raw: u64, from_frac: u32, frac: u32) -> Exact
+pub(crate) fn unsigned(raw: u64, from_frac: u32, frac: u32) -> Exact
     requires { ⌜ («from_frac» ≤ 64) × (frac ≤ 64) ⌝ }
     ensures { λ r. ⌜ exactOf r ≡ stepsOf «from_frac» frac (pos raw) ⌝ }
 {

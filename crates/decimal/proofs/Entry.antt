@@ -2,8 +2,7 @@
 use mathlib.Core.Path.{_≡_, refl, sym, ap, _∙_}
 use mathlib.Core.Bool.{Bool}
 use mathlib.Core.List.{List}
-use Prim.Native.Nat.{ℕ, suc, _≤_}
-use native.Mathlib.Omega.{arith}
+use Prim.Native.Nat.{ℕ, suc}
 use lib.IntN.{ℤ, pos, negsuc, natAbs}
 use lib.Signed.{ltZ}
 use Rattle.laws.specs.Diff.{orders}
@@ -11,7 +10,6 @@ use Rattle.laws.specs.Tests.{lt-ltZ, le-ltZ}
 use Rattle.format.specs.declared.UnsignedAnswer.{UnsignedAnswer}
 use Rattle.format.specs.declared.UnsignedAnswer.the-variants.{Refused}
 use Rattle.format.specs.Meaning.{refused, faultOf, unless, unsignedAnswer}
-use Rattle.format.specs.Fault.{fault-free, width-bounds}
 use Rattle.format.specs.Settle.{unless-fault, unless-none}
 use Rattle.decimal.specs.Meaning.{textOf, rawText, put, after, writeOf, leftOf}
 use Rattle.decimal.specs.Layout.{putAnswer, putOver}
@@ -21,9 +19,6 @@ pub raw-text : (raw : ℤ) (f : ℕ) → textOf (ltZ raw (pos 0)) (natAbs raw) f
 unfolding rawText
 raw-text (pos n) f = ap (λ (b : Bool). textOf b n f) (le-ltZ {a = pos n} {b = pos 0} (omega orders))
 raw-text (negsuc n) f = ap (λ (b : Bool). textOf b (suc n) f) (lt-ltZ {a = negsuc n} {b = pos 0} (omega orders))
-
-pub frac-word : (w f : ℕ) {fault : ℕ} → fault ≡ faultOf w f → fault ≡ 0 → f ≤ 64
-frac-word w f e z = let free = fault-free w f (sym e ∙ z) in omega (arith, free .1, width-bounds w (free .0))
 
 module _ (raw : ℤ) (w f : ℕ) (out : List ℕ) {fault : ℕ} (e : fault ≡ faultOf w f) where
   pub refuses : (fault ≡ 0 → ⊥) → (Refused fault ≡ unsignedAnswer (writeOf raw w f out)) × (out ≡ leftOf raw w f out)

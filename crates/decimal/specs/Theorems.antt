@@ -14,7 +14,7 @@ use native.Mathlib.Nat.{zero-add, mul-pos, pos-of-ne-zero, one-le-pow, pow-le-po
 use native.Mathlib.Omega.{arith}
 use lib.Dec.{leb, ltb, eqb, lit<, lit≤}
 use lib.IntN.{ℤ, pos, negsuc}
-use lib.Pow.{pow-pos, pow-add, pow-mono}
+use lib.Pow.{pow-pos, pow-add}
 use lib.ListN.{length, take, drop, length-append, length-map, drop-of-length-le}
 use lib.Seq.{take-all, take-append-seam}
 use borrow.Author.Tests.{lt-ltb, ltb-true, ltb-false, leb-true, ne-eqb, eqb-true}
@@ -22,9 +22,10 @@ use Rattle.laws.specs.Nearest.{nearestEven, nearest-exact}
 use Rattle.format.specs.declared.Manner.{Manner}
 use Rattle.format.specs.declared.UnsignedAnswer.the-variants.{Done}
 use Rattle.format.specs.Meaning.{Sign, done, refused, faultOf, unless, settle, withSign, unsignedAnswer}
-use Rattle.format.specs.Theorems.{InRange, limit, limit-span, in-fits, settle-fits}
+use Rattle.format.specs.Theorems.{InRange, limit, in-fits, settle-fits}
 use Rattle.format.specs.Fault.{fault-free, width-bounds}
 use Rattle.format.specs.Place.{fits-place}
+use Rattle.format.specs.Far.{limit-word}
 use Rattle.digits.specs.Meaning.{digitsOf}
 use Rattle.grammar.specs.Meaning.{digitOf, Written, Reading, number, unread, plainReading, num, den, rawOf, isRadix, readOf}
 use Rattle.grammar.specs.Automaton.{isDigit, Part, whole, fraction, Seen, nothing, sign, digit, at, Error, blank, onSign, onPoint, step, scan, ended, finish, plainScan, readingOf}
@@ -191,14 +192,9 @@ module _ {neg : Bool} {ws fs : List ℕ} (form : Form neg ws fs) where
         pos-of-ne-zero (λ z. omega (arith, w, some, ap (λ (v : ℕ). v * 10 ^ length fs) z))
 
 -- ---- a raw's magnitude is a word, so its text is short
-magnitude-word : (s : Sign) (w : ℕ) (neg : Bool) (m : ℕ) → 0 < w → w ≤ 64 → InRange s w (withSign neg m) → m < 2 ^ 64
-magnitude-word s w neg m p h r =
-    let low : m ≤ limit s w neg = leb-true m (limit s w neg) (sym (fits-place s w neg m) ∙ in-fits r) in
-    go neg low
-  where
-    go : (neg : Bool) → m ≤ limit s w neg → m < 2 ^ 64
-    go true l = omega (arith, limit-span s w p, pow-mono {i = w} {j = 64} h)
-    go false l = omega (arith, limit-span s w p, pow-mono {i = w} {j = 64} h)
+magnitude-word : (s : Sign) (w : ℕ) (neg : Bool) (m : ℕ) → w ≤ 64 → InRange s w (withSign neg m) → m < 2 ^ 64
+magnitude-word s w neg m h r =
+    omega (arith, leb-true m (limit s w neg) (sym (fits-place s w neg m) ∙ in-fits r), limit-word s w neg h)
 
 -- the text of a raw is that of its sign and its magnitude
 sign-text : (neg : Bool) (m f : ℕ) → (neg ≡ true → 0 < m) → rawText (withSign neg m) f ≡ textOf neg m f
@@ -215,7 +211,7 @@ module _ (k : Manner) (s : Sign) (w f : ℕ) (format : faultOf w f ≡ 0) where
       let free = fault-free w f format in
       let bounds = width-bounds w (free .0) in
       let some : 0 < w = omega (arith, bounds) in
-      let small = magnitude-word s w neg m some (bounds .1) range in
+      let small = magnitude-word s w neg m (bounds .1) range in
       let size : length (formText neg ws fs) ≤ 67 = rw (only neg ws fs m f form writes) (text-length neg m f small (omega (arith, bounds, free .1))) in
       let taken : Taken w f 10 (formText neg ws fs) (written neg ws fs) =
       record { format = format; legal = ten; short = omega (arith, size); scanned = form-reads form } in

@@ -9,7 +9,7 @@ use crate::PLACES;
 use crate::POINT;
 
 // The point and the digits of the fraction from the point's place on, nothing for 0; where they end.
-pub fn write(text: &mut [u8; PLACES], magnitude: u64, frac: u32) -> usize
+pub(crate) fn write(text: &mut [u8; PLACES], magnitude: u64, frac: u32) -> usize
     requires { ⌜ (frac ≤ 64) × (length (now text) ≡ places) ⌝ }
     ensures { λ r. ⌜ (r ≡ point + length (fractionText frac (magnitude % 2 ^ frac))) × (r ≤ places) × (take r (now (text .exit)) ≡ take point (now (text .entry)) ++ fractionText frac (magnitude % 2 ^ frac)) × (length (now (text .exit)) ≡ places) ⌝ }
 {

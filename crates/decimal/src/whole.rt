@@ -9,7 +9,7 @@ use crate::PLACES;
 use crate::POINT;
 
 // The digits of the whole part, the last one just before the point; where they start.
-pub fn write(text: &mut [u8; PLACES], magnitude: u64, frac: u32) -> usize
+pub(crate) fn write(text: &mut [u8; PLACES], magnitude: u64, frac: u32) -> usize
     requires { ⌜ (frac ≤ 64) × (length (now text) ≡ places) ⌝ }
     ensures { λ r. ⌜ (r + length (wholeText (magnitude / 2 ^ frac)) ≡ point) × (drop r (now (text .exit)) ≡ wholeText (magnitude / 2 ^ frac) ++ drop point (now (text .entry))) × (length (now (text .exit)) ≡ places) ⌝ }
 {

@@ -14,7 +14,7 @@ use super::exp::Span;
 use super::span;
 
 // Two views without the zeros in front: where the first is all zeros, the second takes its place (S's `new2`, its first half).
-pub fn strip_front(text: &[u8], a: Span, b: Span) -> Pair
+fn strip_front(text: &[u8], a: Span, b: Span) -> Pair
     requires { ⌜ IsSpan (now text) a × IsSpan (now text) b ⌝ }
     ensures { λ r. ⌜ StandsPair (now (text .entry)) r (dropWhile isZero (spanOf (now (text .entry)) a ++ spanOf (now (text .entry)) b)) ⌝ }
 {
@@ -30,7 +30,7 @@ pub fn strip_front(text: &[u8], a: Span, b: Span) -> Pair
 }
 
 // The same from behind (S's `new2`, its second half).
-pub fn strip_back(text: &[u8], a: Span, b: Span) -> Pair
+fn strip_back(text: &[u8], a: Span, b: Span) -> Pair
     requires { ⌜ IsSpan (now text) a × IsSpan (now text) b ⌝ }
     ensures { λ r. ⌜ StandsPair (now (text .entry)) r (dropBack isZero (spanOf (now (text .entry)) a ++ spanOf (now (text .entry)) b)) ⌝ }
 {
@@ -46,7 +46,7 @@ pub fn strip_back(text: &[u8], a: Span, b: Span) -> Pair
 }
 
 // Two views and `extra` zeros behind, without the zeros in front: the digits of an integer.
-pub fn new_int(text: &[u8], a: Span, b: Span, extra: usize) -> DigitsExp
+fn new_int(text: &[u8], a: Span, b: Span, extra: usize) -> DigitsExp
     requires { ⌜ IsSpan (now text) a × IsSpan (now text) b ⌝ }
     ensures { λ r. ⌜ StandsExp (now (text .entry)) r (dropWhile isZero ((spanOf (now (text .entry)) a ++ spanOf (now (text .entry)) b) ++ zeros extra)) ⌝ }
 {
@@ -63,7 +63,7 @@ pub fn new_int(text: &[u8], a: Span, b: Span, extra: usize) -> DigitsExp
 }
 
 // `extra` zeros in front and two views, without the zeros behind: the digits of a fraction.
-pub fn new_frac(text: &[u8], extra: usize, a: Span, b: Span) -> DigitsExp
+fn new_frac(text: &[u8], extra: usize, a: Span, b: Span) -> DigitsExp
     requires { ⌜ IsSpan (now text) a × IsSpan (now text) b ⌝ }
     ensures { λ r. ⌜ StandsExp (now (text .entry)) r (dropBack isZero (zeros extra ++ (spanOf (now (text .entry)) a ++ spanOf (now (text .entry)) b))) ⌝ }
 {
@@ -80,7 +80,7 @@ pub fn new_frac(text: &[u8], extra: usize, a: Span, b: Span) -> DigitsExp
 }
 
 // `extra`, or 0 where neither view has a digit: zeros alone are no digits of an integer or a fraction.
-pub fn if_digits(a: Span, b: Span, extra: usize) -> usize
+fn if_digits(a: Span, b: Span, extra: usize) -> usize
     ensures { λ r. ⌜ r ≡ cond (eqb (a .digits) 0) (cond (eqb (b .digits) 0) 0 extra) extra ⌝ }
 {
     if a.digits == 0 {
@@ -93,7 +93,7 @@ pub fn if_digits(a: Span, b: Span, extra: usize) -> usize
 }
 
 // The number with no digits at all.
-pub fn nothing() -> DigitsExp
+fn nothing() -> DigitsExp
     ensures { λ r. ⌜ r ≡ emptyExp ⌝ }
 {
     DigitsExp {
@@ -105,7 +105,7 @@ pub fn nothing() -> DigitsExp
 }
 
 // How many places an exponent moves the point.
-pub fn places(exp: i32) -> usize
+pub(crate) fn places(exp: i32) -> usize
     ensures { λ r. ⌜ r ≡ natAbs exp ⌝ }
 {
     if exp < 0 {
@@ -115,7 +115,7 @@ pub fn places(exp: i32) -> usize
 }
 
 // The point n places to the right: the first n digits of the fraction go to the integer, with zeros behind them where there are fewer.
-pub fn move_right(text: &[u8], int: Span, frac: Span, n: usize) -> IntFrac
+pub(crate) fn move_right(text: &[u8], int: Span, frac: Span, n: usize) -> IntFrac
     requires { ⌜ IsSpan (now text) int × IsSpan (now text) frac ⌝ }
     ensures { λ r. ⌜ Moved (now (text .entry)) r (rightInt n) (rightFrac n) int frac ⌝ }
 {
@@ -135,7 +135,7 @@ pub fn move_right(text: &[u8], int: Span, frac: Span, n: usize) -> IntFrac
 }
 
 // The point n places to the left: the last n digits of the integer go to the fraction, with zeros in front of them where there are fewer.
-pub fn move_left(text: &[u8], int: Span, frac: Span, n: usize) -> IntFrac
+pub(crate) fn move_left(text: &[u8], int: Span, frac: Span, n: usize) -> IntFrac
     requires { ⌜ IsSpan (now text) int × IsSpan (now text) frac ⌝ }
     ensures { λ r. ⌜ Moved (now (text .entry)) r (leftInt n) (leftFrac n) int frac ⌝ }
 {

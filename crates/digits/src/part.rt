@@ -6,7 +6,7 @@ ghost use Rattle.digits.specs.Second.{part};
 use super::Digit;
 
 // The first n bytes.
-pub fn head(run: &[u8], n: usize) -> &[u8]
+pub(crate) fn head(run: &[u8], n: usize) -> &[u8]
     ensures { λ r. ⌜ now r ≡ take n (now (run .entry)) ⌝ }
 {
     if n <= run.len() {
@@ -16,7 +16,7 @@ pub fn head(run: &[u8], n: usize) -> &[u8]
 }
 
 // The bytes after the first n.
-pub fn rest(run: &[u8], n: usize) -> &[u8]
+pub(crate) fn rest(run: &[u8], n: usize) -> &[u8]
     ensures { λ r. ⌜ now r ≡ drop n (now (run .entry)) ⌝ }
 {
     if n <= run.len() {
@@ -26,7 +26,7 @@ pub fn rest(run: &[u8], n: usize) -> &[u8]
 }
 
 // The byte in front.
-pub fn first_byte(run: &[u8]) -> Digit
+pub(crate) fn first_byte(run: &[u8]) -> Digit
     ensures { λ r. ⌜ r ≡ firstOf (now (run .entry)) ⌝ }
 {
     if 0 < run.len() {
@@ -36,7 +36,7 @@ pub fn first_byte(run: &[u8]) -> Digit
 }
 
 // The byte behind.
-pub fn last_byte(run: &[u8]) -> Digit
+pub(crate) fn last_byte(run: &[u8]) -> Digit
     ensures { λ r. ⌜ r ≡ lastOf (now (run .entry)) ⌝ }
 {
     if 0 < run.len() {
@@ -46,7 +46,7 @@ pub fn last_byte(run: &[u8]) -> Digit
 }
 
 // The bytes from `from` up to `to`.
-pub fn between(run: &[u8], from: usize, to: usize) -> &[u8]
+pub(crate) fn between(run: &[u8], from: usize, to: usize) -> &[u8]
     ensures { λ r. ⌜ now r ≡ part (now (run .entry)) from to ⌝ }
 {
     if to <= from {

@@ -11,7 +11,7 @@ use super::exp::Span;
 use super::part;
 
 // The view with no digits.
-pub fn empty() -> Span
+pub(crate) fn empty() -> Span
     ensures { λ r. ⌜ r ≡ emptySpan ⌝ }
 {
     Span {
@@ -22,7 +22,7 @@ pub fn empty() -> Span
 }
 
 // The view of the text from `from` up to `to`.
-pub fn trim(text: &[u8], from: usize, to: usize) -> Span
+pub(crate) fn trim(text: &[u8], from: usize, to: usize) -> Span
     ensures { λ r. ⌜ Stands (now (text .entry)) r (digitsOf (part (now (text .entry)) from to)) ⌝ }
 {
     let run = part::between(text, from, to);
@@ -36,7 +36,7 @@ pub fn trim(text: &[u8], from: usize, to: usize) -> Span
 }
 
 // S's `split_at` of a view, the first part. Its two panics are ruled out: `mid` is not 0, and not past the end.
-pub fn split_upto(text: &[u8], s: Span, mid: usize) -> Span
+fn split_upto(text: &[u8], s: Span, mid: usize) -> Span
     requires { ⌜ (0 < mid) × (mid ≤ length (spanOf (now text) s)) ⌝ }
     ensures { λ r. ⌜ Stands (now (text .entry)) r (take mid (spanOf (now (text .entry)) s)) ⌝ }
 {
@@ -46,7 +46,7 @@ pub fn split_upto(text: &[u8], s: Span, mid: usize) -> Span
 }
 
 // The second part.
-pub fn split_from(text: &[u8], s: Span, mid: usize) -> Span
+fn split_from(text: &[u8], s: Span, mid: usize) -> Span
     requires { ⌜ (0 < mid) × (mid ≤ length (spanOf (now text) s)) ⌝ }
     ensures { λ r. ⌜ Stands (now (text .entry)) r (drop mid (spanOf (now (text .entry)) s)) ⌝ }
 {
@@ -57,7 +57,7 @@ pub fn split_from(text: &[u8], s: Span, mid: usize) -> Span
 }
 
 // The first n digits of a view that has as many.
-pub fn keep(text: &[u8], s: Span, n: usize) -> Span
+pub(crate) fn keep(text: &[u8], s: Span, n: usize) -> Span
     requires { ⌜ IsSpan (now text) s × (n ≤ s .digits) ⌝ }
     ensures { λ r. ⌜ Stands (now (text .entry)) r (take n (spanOf (now (text .entry)) s)) ⌝ }
 {
@@ -68,7 +68,7 @@ pub fn keep(text: &[u8], s: Span, n: usize) -> Span
 }
 
 // A view without the first n of its digits.
-pub fn skip(text: &[u8], s: Span, n: usize) -> Span
+pub(crate) fn skip(text: &[u8], s: Span, n: usize) -> Span
     requires { ⌜ IsSpan (now text) s × (n ≤ s .digits) ⌝ }
     ensures { λ r. ⌜ Stands (now (text .entry)) r (drop n (spanOf (now (text .entry)) s)) ⌝ }
 {
@@ -79,7 +79,7 @@ pub fn skip(text: &[u8], s: Span, n: usize) -> Span
 }
 
 // A view without the zeros in front.
-pub fn without_leading_zeros(text: &[u8], s: Span) -> Span
+pub(crate) fn without_leading_zeros(text: &[u8], s: Span) -> Span
     requires { ⌜ IsSpan (now text) s ⌝ }
     ensures { λ r. ⌜ Stands (now (text .entry)) r (dropWhile isZero (spanOf (now (text .entry)) s)) ⌝ }
 {
@@ -87,7 +87,7 @@ pub fn without_leading_zeros(text: &[u8], s: Span) -> Span
 }
 
 // A view without the zeros behind.
-pub fn without_trailing_zeros(text: &[u8], s: Span) -> Span
+pub(crate) fn without_trailing_zeros(text: &[u8], s: Span) -> Span
     requires { ⌜ IsSpan (now text) s ⌝ }
     ensures { λ r. ⌜ Stands (now (text .entry)) r (dropBack isZero (spanOf (now (text .entry)) s)) ⌝ }
 {

@@ -12,20 +12,20 @@ use super::exp::Span;
 use super::span;
 
 // What is left of n past m.
-pub fn past(n: usize, m: usize) -> usize
+fn past(n: usize, m: usize) -> usize
     ensures { λ r. ⌜ r ≡ n - m ⌝ }
 {
     if m <= n { n - m } else { 0 }
 }
 
 // The smaller of the two.
-pub fn smaller(a: usize, b: usize) -> usize
+fn smaller(a: usize, b: usize) -> usize
     ensures { λ r. ⌜ r ≡ min a b ⌝ }
 {
     if a <= b { a } else { b }
 }
 
-pub fn cut(d: DigitsExp, mid: usize) -> Counts
+fn cut(d: DigitsExp, mid: usize) -> Counts
     ensures { λ r. ⌜ r ≡ cutOf d mid ⌝ }
 {
     let part1 = d.part1;
@@ -41,7 +41,7 @@ pub fn cut(d: DigitsExp, mid: usize) -> Counts
 }
 
 // The first `mid` digits: all where there are fewer.
-pub fn upto(text: &[u8], d: DigitsExp, mid: usize) -> DigitsExp
+pub(crate) fn upto(text: &[u8], d: DigitsExp, mid: usize) -> DigitsExp
     requires { ⌜ IsExp (now text) d ⌝ }
     ensures { λ r. ⌜ StandsExp (now (text .entry)) r (take mid (digitsExpOf (now (text .entry)) d)) ⌝ }
 {
@@ -57,7 +57,7 @@ pub fn upto(text: &[u8], d: DigitsExp, mid: usize) -> DigitsExp
 }
 
 // The digits after the first `mid`: none where there are fewer.
-pub fn from(text: &[u8], d: DigitsExp, mid: usize) -> DigitsExp
+pub(crate) fn from(text: &[u8], d: DigitsExp, mid: usize) -> DigitsExp
     requires { ⌜ IsExp (now text) d ⌝ }
     ensures { λ r. ⌜ StandsExp (now (text .entry)) r (drop mid (digitsExpOf (now (text .entry)) d)) ⌝ }
 {
@@ -73,7 +73,7 @@ pub fn from(text: &[u8], d: DigitsExp, mid: usize) -> DigitsExp
 }
 
 // The first digit of a view that has one: its first byte, since no view starts with `_`.
-pub fn first_digit(text: &[u8], s: Span) -> u8
+pub(crate) fn first_digit(text: &[u8], s: Span) -> u8
     requires { ⌜ IsSpan (now text) s × (0 < s .digits) ⌝ }
     ensures { λ r. ⌜ r ∷ drop 1 (spanOf (now (text .entry)) s) ≡ spanOf (now (text .entry)) s ⌝ }
 {

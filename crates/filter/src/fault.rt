@@ -3,9 +3,9 @@ ghost use mathlib.Core.Path.{_≡_};
 ghost use Rattle.filter.specs.Meaning.{tapsFault, blockFault, headFault};
 use super::TAPS;
 
-pub(crate) const UNEQUAL: u32 = 5;
+const UNEQUAL: u32 = 5;
 
-pub(crate) const WRONG_TAPS: u32 = 40;
+const WRONG_TAPS: u32 = 40;
 
 // Taps not 1 to 64.
 pub(crate) fn taps(n: usize) -> u32

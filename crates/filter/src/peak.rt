@@ -8,7 +8,7 @@ use super::TAPS;
 use super::sum;
 
 // The two ways to clip.
-pub(crate) enum Way {
+enum Way {
     High,
     Low,
 }

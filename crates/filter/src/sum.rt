@@ -14,14 +14,14 @@ pub(crate) struct Held {
 }
 
 // The exact product of a tap and a sample: at most 2^30 either way.
-pub(crate) fn product(tap: i16, sample: i16) -> i64
+fn product(tap: i16, sample: i16) -> i64
     ensures { λ r. ⌜ r ≡ tap *ℤ sample ⌝ }
 {
     ((tap as i32) * (sample as i32)) as i64
 }
 
 // The exact sum of the products. A plain loop, so that the compiler can take several products at a time.
-pub(crate) fn dot(taps: &[i16], line: &[i16; TAPS]) -> i64
+fn dot(taps: &[i16], line: &[i16; TAPS]) -> i64
     requires { ⌜ length (now taps) ≤ mostTaps ⌝ }
     requires { ⌜ length (now line) ≡ mostTaps ⌝ }
     ensures { λ r. ⌜ r ≡ sumOf (now (taps .entry)) (now (line .entry)) ⌝ }
@@ -38,7 +38,7 @@ pub(crate) fn dot(taps: &[i16], line: &[i16; TAPS]) -> i64
 }
 
 // P / 2^15 as an integer raw. The shift keeps the sign, so it rounds toward minus infinity.
-pub(crate) fn round(p: i64) -> i64
+fn round(p: i64) -> i64
     ensures { λ r. ⌜ r ≡ rounded p ⌝ }
 {
     p >> 15
@@ -54,7 +54,7 @@ pub(crate) fn level(taps: &[i16], line: &[i16; TAPS]) -> i64
 }
 
 // A number held to the range of a sample.
-pub(crate) fn hold(y: i64) -> Held
+fn hold(y: i64) -> Held
     ensures { λ r. ⌜ r ≡ heldOf y ⌝ }
 {
     if y < -32768 {

@@ -18,7 +18,7 @@ const NO_VALUE: u32 = 40;
 const TOO_MANY: u32 = 41;
 
 // How many value lines there are, refused ones too.
-pub(crate) fn count(file: &[u8]) -> usize
+fn count(file: &[u8]) -> usize
     requires { ⌜ length (now file) ≤ fileLimit ⌝ }
     ensures { λ r. ⌜ r ≡ length (valuesOf (now (file .entry))) ⌝ }
 {

@@ -18,7 +18,7 @@ pub struct Entry {
 }
 
 // What was found: the answer, and the list as arrays, of which the first n places count.
-pub(crate) struct Found {
+struct Found {
     pub outcome: FileAnswer,
     pub n: usize,
     pub lines: [u32; TAPS],
@@ -27,7 +27,7 @@ pub(crate) struct Found {
 }
 
 // The values of a file for a list of some places, and the taps.
-pub(crate) fn find(file: &[u8], room: usize, taps: &mut [i16]) -> Found
+fn find(file: &[u8], room: usize, taps: &mut [i16]) -> Found
     ensures { λ r. ⌜ FoundIs (now (file .entry)) room (now (taps .entry)) r (now (taps .exit)) ⌝ }
 {
     let mut lines = [0u32; TAPS];
@@ -66,7 +66,7 @@ pub(crate) fn find(file: &[u8], room: usize, taps: &mut [i16]) -> Found
 }
 
 // The entry at a place.
-pub(crate) fn pick(f: Found, i: usize) -> Entry
+fn pick(f: Found, i: usize) -> Entry
     requires { ⌜ i < mostTaps ⌝ }
     ensures { λ r. ⌜ r ≡ entryAt f i ⌝ }
 {

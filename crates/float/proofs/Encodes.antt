@@ -11,7 +11,7 @@ use borrow.Author.Tests.{le-ltb}
 use Rattle.format.specs.declared.UnsignedAnswer.the-variants.{Done as DoneU}
 use Rattle.format.specs.Meaning.{faultOf, done, unsignedAnswer}
 use Rattle.format.specs.Answer.{done-unsigned, pass-unsigned}
-use Rattle.format.specs.Fault.{fault-free, width-bounds}
+use Rattle.format.specs.Fault.{frac-word}
 use Rattle.float.specs.ToPattern.{toOf}
 use Rattle.laws.specs.Nearest.{nearestEven}
 use Rattle.float.specs.Meaning.{Binary, least, patternOf}
@@ -70,13 +70,8 @@ module _ (p w n f : ℕ) {r : ℕ} (e : Encoded p w n f r) where
   no-sign t = rw t (e .pattern)
 
 -- ---- the answer
-within : (w f : ℕ) {fault : ℕ} → fault ≡ faultOf w f → fault ≡ 0 → f ≤ 64
-within w f d z =
-    let free = fault-free w f (sym d ∙ z) in
-    omega (arith, free .1, width-bounds w (free .0))
-
 pub encode-room : (p w v f : ℕ) {fault : ℕ} → Roomy p w → fault ≡ faultOf v f → fault ≡ 0 → Roomy p w × (f ≤ 64)
-encode-room p w v f room d z = (room, within v f d z)
+encode-room p w v f room d z = (room, frac-word v f d z)
 
 module _ (b : Binary) (w f : ℕ) {fault x : ℕ} (d : fault ≡ faultOf w f) (z : fault ≡ 0) where
   done-pattern : (a : ℤ) → x ≡ patternOf b (ltZ a (pos 0)) (natAbs a) f → DoneU x false ≡ unsignedAnswer (toOf b w f a)

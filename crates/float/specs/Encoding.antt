@@ -14,6 +14,7 @@ use lib.Ieee.Digits.{size-lt, size-le}
 use lib.Pow.{pow-pos, pow-mono, pow-add, pow-lt}
 use borrow.Author.Tests.{lt-ltb, le-ltb}
 use Rattle.laws.specs.Nearest.{nearestEven, nearest, nearest-scale, nearest-least, nearest-exact, nearest-none}
+use Rattle.laws.specs.Powers.{power-sub}
 use Rattle.float.specs.Meaning.{Binary, bias, least, unit, significand, nearestSteps, joined, patternBy, patternOf}
 use Rattle.float.specs.Parts.{binary, Small}
 
@@ -37,9 +38,6 @@ digits-of n h l =
     rw e (record { some = omega arith; most = omega (arith, t .1); low = rw j (t .2); high = t .3 })
 
 -- ---- small laws
-pub power-sub : (i j : ℕ) → i ≤ j → 2 ^ j ≡ 2 ^ (j - i) * 2 ^ i
-power-sub i j h = let e : j ≡ (j - i) + i = omega arith in ap (λ (k : ℕ). 2 ^ k) e ∙ pow-add 2 (j - i) i
-
 pub double : (d : ℕ) → 1 ≤ d → 2 ^ d ≡ 2 ^ (d - 1) * 2
 double d h = let e : d ≡ suc (d - 1) = omega arith in ap (λ (k : ℕ). 2 ^ k) e ∙ pow-suc 2 (d - 1)
 

@@ -15,8 +15,9 @@ use Rattle.laws.specs.Nearest.{nearestEven}
 use Rattle.wide.specs.declared.Wide.{Wide}
 use Rattle.format.specs.Fault.{fault-free, width-bounds}
 use Rattle.format.specs.Settle.{unless-fault, unless-none}
+use Rattle.format.specs.Far.{far-end}
 use Rattle.float.specs.Meaning.{Binary, least, negative, biased, trailing, steps, nan, infinite, finite, ofFields, valueOf, rawOf, infinity, ofValue, fromOf}
-use Rattle.float.specs.Folds.{Folds, settle-folds, far-end}
+use Rattle.float.specs.Folds.{Folds, settle-folds}
 
 abbrev pub binary : ℕ → ℕ → Binary
 binary p w = record { precision = p; field = w }
@@ -49,7 +50,7 @@ magnitudeOf b f x = cond (eqb (biased b x) (2 ^ b .field - 1)) (2 ^ 64) (rawOf b
 infinite-as : (b : Binary) (k : Manner) (s : Sign) (w : ℕ) (neg : Bool) → isWidth w ≡ true → infinity k s w neg ≡ unless (infiniteFault k) (settle k s w (withSign neg (2 ^ 64)))
 unfolding infinity infiniteFault unless settle
 infinite-as b Strict s w neg h = refl
-infinite-as b Saturating s w neg h = ap (λ (z : ℤ). done z false) (sym (far-end s w neg (2 ^ 64) h (omega arith)))
+infinite-as b Saturating s w neg h = ap (λ (z : ℤ). done z false) (sym (far-end s w neg (2 ^ 64) (width-bounds w h .1) (omega arith)))
 infinite-as b Wrapping s w neg h = refl
 infinite-as b Overflowing s w neg h = refl
 

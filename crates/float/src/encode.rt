@@ -10,7 +10,7 @@ use crate::pattern;
 use crate::rounding;
 
 // Of the number with this sign and the magnitude size / 2^frac.
-pub fn encode(neg: bool, size: u64, frac: u32, precision: u32, field: u32) -> u64
+pub(crate) fn encode(neg: bool, size: u64, frac: u32, precision: u32, field: u32) -> u64
     requires { ⌜ Roomy precision field × (frac ≤ 64) ⌝ }
     ensures { λ r. ⌜ r ≡ patternOf (binary precision field) neg size frac ⌝ }
 {

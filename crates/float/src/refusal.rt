@@ -4,10 +4,10 @@ ghost use Rattle.float.specs.Parts.{binary, Small, infiniteFault, patter
 use crate::pattern;
 use format::Manner;
 
-pub const NOT_A_NUMBER: u32 = 30;
+const NOT_A_NUMBER: u32 = 30;
 
 // Of the format, then of the pattern.
-pub fn of_call(
+pub(crate) fn of_call(
     pattern: u64,
     precision: u32,
     field: u32,

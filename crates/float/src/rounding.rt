@@ -7,7 +7,7 @@ use crate::bits;
 use wide::Wide;
 
 // Past two words no format needs more than that there is something: whole 2^64 are dropped.
-pub fn scaled(m: u64, up: u32, down: u32) -> Wide
+pub(crate) fn scaled(m: u64, up: u32, down: u32) -> Wide
     requires { ⌜ m < 2 ^ 63 ⌝ }
     ensures { λ r. ⌜ Folds (nearestEven (m * 2 ^ up) (2 ^ down)) r ⌝ }
 {
@@ -35,7 +35,7 @@ fn nearest(m: u64, k: u32) -> u64
     0
 }
 
-pub fn by_rest(whole: u64, rest: u64, unit: u64) -> u64
+pub(crate) fn by_rest(whole: u64, rest: u64, unit: u64) -> u64
     requires { ⌜ (whole < 2 ^ 63) × (rest < 2 ^ 63) ⌝ }
     ensures { λ r. ⌜ r ≡ nearestBy whole rest unit ⌝ }
 {

@@ -54,3 +54,7 @@ fault-free w f = go (isWidth w) (leb f w) refl
     go true true e h = (refl, leb-true f w e)
     go true false e h = absurd (omega arith)
     go false b e h = absurd (omega arith)
+
+-- so the fraction bits are at most a word's
+pub frac-word : (w f : ℕ) {fault : ℕ} → fault ≡ faultOf w f → fault ≡ 0 → f ≤ 64
+frac-word w f e z = let free = fault-free w f (sym e ∙ z) in omega (arith, free .1, width-bounds w (free .0))

@@ -1,5 +1,6 @@
 pub mod Answer
 pub mod Cases
+pub mod Far
 pub mod Fault
 pub mod Meaning
 pub mod Place

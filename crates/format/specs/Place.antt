@@ -8,7 +8,7 @@ use native.Mathlib.Nat.{div-add-mod', mod-lt}
 use native.Mathlib.Omega.{arith}
 use native.Mathlib.Decide.{decLe}
 use lib.Dec.{leb, eqb, ltb}
-use lib.Pow.{pow-pos, pow-add}
+use lib.Pow.{pow-pos}
 use lib.IntN.{ℤ, pos, negsuc, negℤ, _+ℤ_, _-ℤ_, _*ℤ_}
 use lib.Signed.{_≤ℤ_, _<ℤ_}
 use lib.Bits.{bitAnd, and-mask}
@@ -18,6 +18,7 @@ use borrow.Author.Tests.{lt-ltb, le-ltb, eq-eqb, ne-eqb, le-leb, lt-leb, eqb-tru
 use Rattle.laws.specs.Diff.{up, dn, up-neg, dn-neg, add-out}
 use Rattle.laws.specs.Bound.{sfits-out}
 use Rattle.laws.specs.Order.{mul-out}
+use Rattle.laws.specs.Powers.{power-sub}
 use Rattle.laws.specs.Ring.{*ℤ-distribʳ}
 use Rattle.laws.specs.Signed.{signed as kit}
 use Rattle.format.specs.Meaning.{Sign, signed, unsigned, lowest, highest, fits, hold, wrap, withSign, isWidth}
@@ -78,12 +79,9 @@ unfolding limit
 limit-unsigned w = refl
 
 -- 2^64 is a whole number of 2^W
-word-turns : (w : ℕ) → w ≤ 64 → 2 ^ 64 ≡ 2 ^ (64 - w) * 2 ^ w
-word-turns w h = let e : 64 ≡ 64 - w + w = omega arith in ap (λ (k : ℕ). 2 ^ k) e ∙ pow-add 2 (64 - w) w
-
 module _ (high low w : ℕ) (some : 0 < w) (word : w ≤ 64) where
   split : high * 2 ^ 64 + low ≡ (high * 2 ^ (64 - w) + low / 2 ^ w) * 2 ^ w + low % 2 ^ w
-  split = omega (arith, ap (λ (k : ℕ). high * k) (word-turns w word), div-add-mod' low (2 ^ w))
+  split = omega (arith, ap (λ (k : ℕ). high * k) (power-sub w 64 word), div-add-mod' low (2 ^ w))
 
   pub residue-wraps : (neg : Bool) → pos (residue neg low w) ≡ wrap unsigned w (withSign neg (high * 2 ^ 64 + low))
   unfolding residue

@@ -6,7 +6,7 @@ ghost use Rattle.format.specs.Meaning.{isWidth};
 ghost use Rattle.format.specs.Place.{residue as residueOf, PlacedAs};
 
 // 2^(W-1): half as many as there are raws.
-pub fn half(width: u32) -> u64
+pub(crate) fn half(width: u32) -> u64
     requires { ⌜ isWidth width ≡ true ⌝ }
     ensures { λ r. ⌜ r ≡ 2 ^ (width - 1) ⌝ }
 {
@@ -14,7 +14,7 @@ pub fn half(width: u32) -> u64
 }
 
 // 2^W - 1: the W low bits set. It is made of two halves, since 2^64 is no word.
-pub fn top(width: u32) -> u64
+pub(crate) fn top(width: u32) -> u64
     requires { ⌜ isWidth width ≡ true ⌝ }
     ensures { λ r. ⌜ r ≡ 2 ^ width - 1 ⌝ }
 {
@@ -23,12 +23,12 @@ pub fn top(width: u32) -> u64
 }
 
 // Whether the magnitude of two words is within the limit, and the magnitude held to the limit.
-pub struct Placed {
+pub(crate) struct Placed {
     pub fits: bool,
     pub held: u64,
 }
 
-pub fn place(high: u64, low: u64, limit: u64) -> Placed
+pub(crate) fn place(high: u64, low: u64, limit: u64) -> Placed
     ensures { λ r. ⌜ PlacedAs high low limit (r .fits) (r .held) ⌝ }
 {
     if high == 0 {
@@ -50,7 +50,7 @@ pub fn place(high: u64, low: u64, limit: u64) -> Placed
 }
 
 // The number modulo 2^W. The high word does not matter: 2^64 is a whole number of 2^W.
-pub fn residue(neg: bool, low: u64, width: u32) -> u64
+pub(crate) fn residue(neg: bool, low: u64, width: u32) -> u64
     requires { ⌜ isWidth width ≡ true ⌝ }
     ensures { λ r. ⌜ r ≡ residueOf neg low width ⌝ }
 {

@@ -13,14 +13,14 @@ use arith::exact::Number;
 use whole::units;
 use wide::Wide;
 
-pub fn abs(x: Number) -> Exact
+pub(crate) fn abs(x: Number) -> Exact
     ensures { λ r. ⌜ exactOf r ≡ pos (natAbs (numberOf x)) ⌝ }
 {
     exact::of_number(exact::of_unsigned(x.size))
 }
 
 // The sign of x, in units of 2^frac.
-pub fn signum(x: Number, frac: u32) -> Exact
+pub(crate) fn signum(x: Number, frac: u32) -> Exact
     requires { ⌜ frac ≤ 64 ⌝ }
     ensures { λ r. ⌜ exactOf r ≡ signOf (numberOf x) *ℤ pos (2 ^ frac) ⌝ }
 {
@@ -40,7 +40,7 @@ fn at_most_one(n: u64) -> u64
     1
 }
 
-pub fn rem_euclid(x: Number, y: Number) -> Exact
+pub(crate) fn rem_euclid(x: Number, y: Number) -> Exact
     requires { ⌜ 0 < y .size ⌝ }
     ensures { λ r. ⌜ exactOf r ≡ remEuclid (numberOf x) (numberOf y) ⌝ }
 {
@@ -48,7 +48,7 @@ pub fn rem_euclid(x: Number, y: Number) -> Exact
 }
 
 // The floor by |y|, with the sign turned where y is negative, in units of 2^frac.
-pub fn div_euclid(x: Number, y: Number, frac: u32) -> Exact
+pub(crate) fn div_euclid(x: Number, y: Number, frac: u32) -> Exact
     requires { ⌜ (0 < y .size) × (frac ≤ 64) ⌝ }
     ensures { λ r. ⌜ exactOf r ≡ quotEuclid (numberOf x) (numberOf y) *ℤ pos (2 ^ frac) ⌝ }
 {
@@ -88,7 +88,7 @@ fn above(size: u64, m: u64) -> u64
 }
 
 // The floor of the product, of two words, and a word. The product of two words leaves room for a word.
-pub fn mul_add(x: Number, y: Number, z: Number, frac: u32) -> Exact
+pub(crate) fn mul_add(x: Number, y: Number, z: Number, frac: u32) -> Exact
     ensures { λ r. ⌜ exactOf r ≡ floorIn (numberOf x *ℤ numberOf y) (2 ^ frac) +ℤ numberOf z ⌝ }
 {
     let p = wide::mul(x.size, y.size);
@@ -131,7 +131,7 @@ fn add(x: Exact, neg: bool, size: u64) -> Exact
 }
 
 // |x - y|
-pub fn dist(x: Number, y: Number) -> Exact
+pub(crate) fn dist(x: Number, y: Number) -> Exact
     ensures { λ r. ⌜ exactOf r ≡ pos (natAbs (numberOf x -ℤ numberOf y)) ⌝ }
 {
     let d = exact::sum(x, exact::negated(y));
@@ -143,7 +143,7 @@ pub fn dist(x: Number, y: Number) -> Exact
 }
 
 // Half of x + y, rounded toward minus infinity.
-pub fn mean(x: Number, y: Number) -> Exact
+pub(crate) fn mean(x: Number, y: Number) -> Exact
     ensures { λ r. ⌜ exactOf r ≡ floorIn (numberOf x +ℤ numberOf y) 2 ⌝ }
 {
     let s = exact::sum(x, y);

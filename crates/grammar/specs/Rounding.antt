@@ -11,16 +11,15 @@ use native.Mathlib.Omega.{arith}
 use lib.Pow.{pow-pos, pow-mono, pow-add}
 use lib.IntN.{ℤ, pos, _+ℤ_, _*ℤ_}
 use lib.ListN.{length}
-use borrow.Author.Tests.{lt-leb}
 use Rattle.laws.specs.Diff.{up, dn, add-out}
 use Rattle.laws.specs.Order.{mul-out}
 use Rattle.laws.specs.Signed.{signed as kit}
 use Rattle.laws.specs.Nearest.{nearestEven, nearest-same, nearest-none, nearest-least, nearest-exact}
 use Rattle.format.specs.declared.Manner.the-variants.{Strict, Wrapping}
-use Rattle.format.specs.Meaning.{Sign, signed, unsigned, wrap, settle, withSign, done, refused}
-use Rattle.format.specs.Theorems.{limit, lowest-out, highest-out, wrap-only}
-use Rattle.format.specs.Fault.{half-word}
-use Rattle.format.specs.Place.{sign-out, fits-place}
+use Rattle.format.specs.Meaning.{Sign, wrap, settle, withSign, done, refused}
+use Rattle.format.specs.Theorems.{lowest-out, highest-out, wrap-only}
+use Rattle.format.specs.Place.{sign-out}
+use Rattle.format.specs.Far.{far-unfit}
 use Rattle.grammar.specs.Meaning.{Written, natFrom, num, den, rawOf}
 use Rattle.grammar.specs.Automaton.{withDigit}
 
@@ -126,20 +125,13 @@ huge-under radix f n x r b t h l =
     below-half radix f x (rw t (omega (arith, pow-pos f)))
 
 -- ---- past every format: strict refuses with 10
-pub limit-word : (s : Sign) (w : ℕ) (neg : Bool) → w ≤ 64 → limit s w neg < 2 ^ 64
-unfolding limit
-limit-word signed w true h = omega (arith, half-word w h)
-limit-word signed w false h = omega (arith, half-word w h)
-limit-word unsigned w true h = omega arith
-limit-word unsigned w false h = omega (arith, pow-mono h, pow-pos w)
-
 pub past-word : (s : Sign) (w radix f : ℕ) (x : Written) → w ≤ 64 → 0 < den radix x → 2 ^ 64 * den radix x ≤ num radix x * 2 ^ f
     → settle Strict s w (withSign (x .neg) (rawOf radix f x)) ≡ refused 10
 unfolding rawOf settle
 past-word s w radix f x h d l =
     let m = nearestEven (num radix x * 2 ^ f) (den radix x) in
     let far : 2 ^ 64 ≤ m = nearest-least (num radix x * 2 ^ f) (den radix x) (2 ^ 64) d l in
-    rw (fits-place s w (x .neg) m, lt-leb m (limit s w (x .neg)) (omega (arith, limit-word s w (x .neg) h)))
+    rw (far-unfit s w (x .neg) m h far)
 
 -- so it is if anything is written and the exponent goes up by 64 places more than there are after the point
 pub huge-over : (s : Sign) (w radix f : ℕ) (x : Written) → w ≤ 64 → 2 ≤ radix → x .base ≡ radix → x .down ≡ false

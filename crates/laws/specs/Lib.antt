@@ -4,6 +4,7 @@ pub mod Floor
 pub mod Lists
 pub mod Nearest
 pub mod Order
+pub mod Powers
 pub mod Ring
 pub mod Rules
 pub mod Signed

@@ -1,8 +1,7 @@
--- The three answers of an entry, over plain values: the format's refusal, 32, and the logarithm; and that a format without fault has at most 64 fraction bits.
--- Assumes nothing.
-use mathlib.Core.Path.{_≡_, refl, sym, subst, _∙_}
+-- The three answers of an entry, over plain values: the format's refusal, 32, and the logarithm. Assumes nothing.
+use mathlib.Core.Path.{_≡_, refl, sym, subst}
 use mathlib.Core.Bool.{false}
-use Prim.Native.Nat.{ℕ, zero, suc, _≤_, _<_}
+use Prim.Native.Nat.{ℕ, zero, suc, _<_}
 use native.Mathlib.Omega.{arith}
 use lib.Dec.{T}
 use lib.IntN.{ℤ, pos, negsuc, natAbs}
@@ -14,7 +13,6 @@ use Rattle.laws.specs.Diff.{orders}
 use Rattle.laws.specs.Bound.{sfits-out}
 use Rattle.format.specs.declared.SignedAnswer.the-variants.{Done, Refused}
 use Rattle.format.specs.Meaning.{faultOf, unless, signedAnswer}
-use Rattle.format.specs.Fault.{fault-free, width-bounds}
 use Rattle.log10.specs.Meaning.{log10Of, positiveOnly, log10Outcome}
 use Rattle.log10.specs.Promise.{SignedLog10}
 
@@ -54,9 +52,3 @@ positive x raw f e l = subst (λ (y : ℤ). Positive y raw) (sym e) (go raw f l)
     go : (x : ℤ) → SFits w64 x → pos 0 <ℤ x → Positive x x
     go (pos n) f l = record { cast = (tt, record { fits = omega (orders, sfits-out f) }); above = omega orders; same = refl }
     go (negsuc n) f l = absurd (omega orders)
-
--- a format without fault has at most 64 fraction bits
-pub frac-64 : (w f : ℕ) {n : ℕ} → n ≡ faultOf w f → n ≡ 0 → f ≤ 64
-frac-64 w f e z =
-    let free = fault-free w f (sym e ∙ z) in
-    omega (arith, free, width-bounds w (free .0))

@@ -3,7 +3,7 @@ ghost use mathlib.Core.Path.{_≡_};
 ghost use Prim.Native.Nat.{_+_, _^_, _≤_, _<_};
 
 // The greatest k with 10^k <= n. The number of bits gives a guess, which is right or one too high.
-pub fn ilog10(n: u64) -> u32
+pub(crate) fn ilog10(n: u64) -> u32
     requires { ⌜ 0 < n ⌝ }
     ensures { λ r. ⌜ (10 ^ r ≤ n) × (n < 10 ^ (r + 1)) ⌝ }
 {

@@ -1,7 +1,7 @@
 // A refused line in words: what its answer means, and what to write instead.
 use super::out;
 
-pub fn meaning(inner: u32) {
+pub(crate) fn meaning(inner: u32) {
     match inner {
         4 => out::text(b"the line is above 4096 bytes"),
         10 => out::text(b"the number is outside the range"),
@@ -18,7 +18,7 @@ pub fn meaning(inner: u32) {
     }
 }
 
-pub fn instead(line: &[u8], inner: u32) {
+pub(crate) fn instead(line: &[u8], inner: u32) {
     if last_is(line, b'\r') {
         out::text(b"the line without the CR at its end; save the file with LF line ends");
         return;

@@ -9,16 +9,16 @@ const SHOWN: usize = 80;
 // The longest text of the writer for I1F15 and for a sum.
 const LONGEST: usize = 67;
 
-pub fn text(t: &[u8]) {
+pub(crate) fn text(t: &[u8]) {
     io::write_all(libc::STDOUT_FILENO, t);
 }
 
-pub fn number(n: u64) {
+fn number(n: u64) {
     io::print_decimal(libc::STDOUT_FILENO, n);
 }
 
 // The lesser of two counts.
-pub fn least(a: usize, b: usize) -> usize
+pub(crate) fn least(a: usize, b: usize) -> usize
     ensures { λ r. ⌜ r ≤ a ⌝ }
     ensures { λ r. ⌜ r ≤ b ⌝ }
 {
@@ -29,7 +29,7 @@ pub fn least(a: usize, b: usize) -> usize
 }
 
 // A raw, exactly, through the writer.
-pub fn value(raw: i64, width: u32, frac: u32) {
+pub(crate) fn value(raw: i64, width: u32, frac: u32) {
     let mut buf = [0u8; LONGEST];
     let answer = decimal::signed::write(raw, width, frac, &mut buf[..]);
     let UnsignedAnswer::Done { raw: n, flag: _ } = answer else {
@@ -46,14 +46,14 @@ fn start(bytes: &[u8], n: usize) {
 }
 
 // A tap or a sample as a wider number.
-pub fn wide(x: i16) -> i64
+pub(crate) fn wide(x: i16) -> i64
     ensures { λ r. ⌜ r ≡ x ⌝ }
 {
     x as i64
 }
 
 // The first n of a list, or all of it.
-pub fn upto(list: &[i16], n: usize) -> &[i16] {
+pub(crate) fn upto(list: &[i16], n: usize) -> &[i16] {
     if n < list.len() {
         return &list[..n];
     }
@@ -61,14 +61,14 @@ pub fn upto(list: &[i16], n: usize) -> &[i16] {
 }
 
 // An entry of a list, 0 past its end.
-pub fn entry(list: &[u32], i: usize) -> u32 {
+pub(crate) fn entry(list: &[u32], i: usize) -> u32 {
     if i < list.len() {
         return list[i];
     }
     0
 }
 
-pub fn sample(list: &[i16], i: usize) -> i16 {
+pub(crate) fn sample(list: &[i16], i: usize) -> i16 {
     if i < list.len() {
         return list[i];
     }
@@ -76,14 +76,14 @@ pub fn sample(list: &[i16], i: usize) -> i16 {
 }
 
 // The name of a thing with its number: `tap 3`.
-pub fn item(name: &[u8], n: u64) {
+pub(crate) fn item(name: &[u8], n: u64) {
     text(name);
     text(b" ");
     number(n);
 }
 
 // A line of the file on one line: a byte that cannot be printed, or a backslash, as its number, `\x0d`.
-pub fn quoted(line: &[u8]) {
+pub(crate) fn quoted(line: &[u8]) {
     if line.len() <= SHOWN {
         bytes(line);
         return;

@@ -2,19 +2,19 @@
 use super::hint;
 use super::out;
 
-pub fn usage() {
+pub(crate) fn usage() {
     out::text(b"no file: give the name of one fitting file: fit FILE\n");
     end();
 }
 
-pub fn unopened(name: &[u8]) {
+pub(crate) fn unopened(name: &[u8]) {
     out::text(b"no file: ");
     out::quoted(name);
     out::text(b" cannot be opened; check its name and that it may be read\n");
     end();
 }
 
-pub fn unread(name: &[u8]) {
+pub(crate) fn unread(name: &[u8]) {
     out::text(b"no file: ");
     out::quoted(name);
     out::text(b" cannot be read; give a file, not a directory\n");
@@ -22,7 +22,7 @@ pub fn unread(name: &[u8]) {
 }
 
 // The file as a whole is refused.
-pub fn whole(number: u32) {
+pub(crate) fn whole(number: u32) {
     out::item(b"refused", number as u64);
     out::text(b": ");
     file_fault(number);
@@ -42,7 +42,7 @@ fn file_fault(number: u32) {
 }
 
 // Every refused line: its text, its own answer, and what to write instead.
-pub fn lines(file: &[u8], lines: &[u32], answers: &[u32]) {
+pub(crate) fn lines(file: &[u8], lines: &[u32], answers: &[u32]) {
     out::text(b"refused 42: these lines are not numbers of the format\n");
     let mut i: usize = 0;
     while i < lines.len() {

@@ -5,7 +5,7 @@ const WIDTH: u32 = 16;
 
 const FRAC: u32 = 15;
 
-pub fn show(lines: &[u32], taps: &[i16]) {
+pub(crate) fn show(lines: &[u32], taps: &[i16]) {
     let mut i: usize = 0;
     while i < taps.len() {
         let raw = taps[i];
@@ -22,7 +22,7 @@ fn tap(place: usize, line: u32, raw: i16) {
 }
 
 // Newest first.
-pub fn samples(list: &[i16]) {
+pub(crate) fn samples(list: &[i16]) {
     let mut i: usize = 0;
     while i < list.len() {
         let raw = list[i];

@@ -11,7 +11,7 @@ const SUM_WIDTH: u32 = 64;
 
 const SUM_FRAC: u32 = 30;
 
-pub fn show(taps: &[i16]) {
+pub(crate) fn show(taps: &[i16]) {
     let mut witness = [0i16; TAPS];
     let n = out::least(taps.len(), TAPS);
     judged(taps, &mut witness[..n]);

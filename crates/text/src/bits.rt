@@ -14,7 +14,7 @@ use crate::fold::Folded;
 use crate::fold::Order;
 
 // The raw of a text that the scan accepted, whose digits stand in `body`: n of them, `after` of them after the point.
-pub fn bits(
+pub(crate) fn bits(
     body: &[u8],
     n: usize,
     after: usize,

@@ -11,13 +11,13 @@ const UNDERSCORE: u8 = 95;
 const POINT: u8 = 46;
 
 // A digit, and the position after it.
-pub struct Next {
+pub(crate) struct Next {
     pub digit: u64,
     pub at: usize,
 }
 
 // The number that some digits make, and the position after them.
-pub struct Taken {
+pub(crate) struct Taken {
     pub number: Folded,
     pub at: usize,
 }
@@ -43,7 +43,7 @@ fn is_nonzero(b: u8) -> bool
 }
 
 // The first digit from a position on; 0 where there is none.
-pub fn next_digit(body: &[u8], from: usize) -> Next
+pub(crate) fn next_digit(body: &[u8], from: usize) -> Next
     requires { ⌜ from ≤ length (now body) ⌝ }
     ensures { λ r. ⌜ NextOf (now (body .entry)) from (r .digit) (r .at) ⌝ }
 {
@@ -63,7 +63,7 @@ pub fn next_digit(body: &[u8], from: usize) -> Next
 }
 
 // The next `count` digits as one number in the radix.
-pub fn fold_digits(body: &[u8], from: usize, count: usize, radix: u64) -> Taken
+pub(crate) fn fold_digits(body: &[u8], from: usize, count: usize, radix: u64) -> Taken
     requires { ⌜ (0 < radix) × (from ≤ length (now body)) × (count ≤ length (digitsFrom (now body) from)) ⌝ }
     ensures { λ r. ⌜ TakenOf (now (body .entry)) from count radix (r .number) (r .at) ⌝ }
 {
@@ -80,7 +80,7 @@ pub fn fold_digits(body: &[u8], from: usize, count: usize, radix: u64) -> Taken
 }
 
 // Whether any digit from a position on is not 0.
-pub fn any_nonzero(body: &[u8], from: usize) -> bool
+pub(crate) fn any_nonzero(body: &[u8], from: usize) -> bool
     requires { ⌜ from ≤ length (now body) ⌝ }
     ensures { λ r. ⌜ r ≡ anyOf (digitsFrom (now (body .entry)) from) ⌝ }
 {

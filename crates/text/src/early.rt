@@ -7,7 +7,7 @@ const WRONG_RADIX: u32 = 3;
 const TOO_LONG: u32 = 4;
 
 // 0 where there is none.
-pub fn plain(width: u32, frac: u32, radix: u32, len: usize) -> u32
+pub(crate) fn plain(width: u32, frac: u32, radix: u32, len: usize) -> u32
     ensures { λ r. ⌜ r ≡ earlyPlain width frac radix len ⌝ }
 {
     let fault = format::check(width, frac);
@@ -20,7 +20,7 @@ pub fn plain(width: u32, frac: u32, radix: u32, len: usize) -> u32
     fault
 }
 
-pub fn literal(width: u32, frac: u32, len: usize) -> u32
+pub(crate) fn literal(width: u32, frac: u32, len: usize) -> u32
     ensures { λ r. ⌜ r ≡ earlyLiteral width frac len ⌝ }
 {
     let fault = format::check(width, frac);

@@ -6,20 +6,20 @@ ghost use Rattle.text.specs.Fold.{foldOf, valueOf, bit};
 ghost use Rattle.text.specs.Round.{roundBy};
 use wide::Wide;
 
-pub struct Folded {
+pub(crate) struct Folded {
     pub low: u64,
     pub over: bool,
 }
 
 // How one number compares with another.
-pub enum Order {
+pub(crate) enum Order {
     Less,
     Same,
     More,
 }
 
 // A number of one word.
-pub fn of(b: u64) -> Folded
+pub(crate) fn of(b: u64) -> Folded
     ensures { λ r. ⌜ r ≡ foldOf b ⌝ }
 {
     Folded {
@@ -29,7 +29,7 @@ pub fn of(b: u64) -> Folded
 }
 
 // The word above `low`: with it, a format settles the number.
-pub fn high(x: Folded) -> u64
+pub(crate) fn high(x: Folded) -> u64
     ensures { λ r. ⌜ r ≡ bit (x .over) ⌝ }
 {
     if x.over {
@@ -46,7 +46,7 @@ fn words(a: u64, m: u64, d: u64) -> Wide
 }
 
 // x * m + d. Once past 2^64, a number stays past it.
-pub fn times(x: Folded, m: u64, d: u64) -> Folded
+pub(crate) fn times(x: Folded, m: u64, d: u64) -> Folded
     requires { ⌜ 0 < m ⌝ }
     ensures { λ r. ⌜ r ≡ foldOf (valueOf x * m + d) ⌝ }
 {
@@ -65,14 +65,14 @@ pub fn times(x: Folded, m: u64, d: u64) -> Folded
 }
 
 // x + b.
-pub fn add(x: Folded, b: u64) -> Folded
+pub(crate) fn add(x: Folded, b: u64) -> Folded
     ensures { λ r. ⌜ r ≡ foldOf (valueOf x + b) ⌝ }
 {
     times(x, 1, b)
 }
 
 // x * 2^k, for every k.
-pub fn scaled(x: Folded, k: u64) -> Folded
+pub(crate) fn scaled(x: Folded, k: u64) -> Folded
     ensures { λ r. ⌜ r ≡ foldOf (valueOf x * 2 ^ k) ⌝ }
 {
     if k < 64 {
@@ -88,7 +88,7 @@ pub fn scaled(x: Folded, k: u64) -> Folded
 }
 
 // The number or the next, by how the fraction that was cut off compares with one half. The number's own last bit decides a tie.
-pub fn rounded(x: Folded, how: Order) -> Folded
+pub(crate) fn rounded(x: Folded, how: Order) -> Folded
     ensures { λ r. ⌜ r ≡ foldOf (roundBy how (valueOf x)) ⌝ }
 {
     match how {

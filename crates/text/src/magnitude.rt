@@ -9,7 +9,7 @@ use crate::fold::Folded;
 use crate::tens;
 use grammar::scan::Parsed;
 
-pub fn magnitude(text: &[u8], p: Parsed, radix: u32, frac: u32) -> Folded
+pub(crate) fn magnitude(text: &[u8], p: Parsed, radix: u32, frac: u32) -> Folded
     requires { ⌜ Readable (now text) p radix frac ⌝ }
     ensures { λ r. ⌜ r ≡ foldOf (rawOf radix frac (writtenOf (now (text .entry)) p)) ⌝ }
 {

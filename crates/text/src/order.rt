@@ -12,7 +12,7 @@ use crate::fold::Order;
 use wide::Wide;
 
 // The middle above q, (2 q + 1) / 2^(frac + 1), as the comparison starts: ten times it, in units of 2^-64.
-pub fn middle(q: u64, frac: u32) -> Wide
+fn middle(q: u64, frac: u32) -> Wide
     requires { ⌜ (frac ≤ 64) × (q < 2 ^ frac) ⌝ }
     ensures { λ r. ⌜ valueOf r ≡ (q * 10 + 5) * 2 ^ (64 - frac) ⌝ }
 {
@@ -66,7 +66,7 @@ fn walk(body: &[u8], from: usize, count: usize, start: Wide) -> Order
 }
 
 // The side of the middle above q that the fraction lies on: zeros, and then the digits from a position on.
-pub fn side(body: &[u8], from: usize, count: usize, zeros: u32, q: u64, frac: u32) -> Order
+pub(crate) fn side(body: &[u8], from: usize, count: usize, zeros: u32, q: u64, frac: u32) -> Order
     requires { ⌜ (from ≤ length (now body)) × (count ≡ length (digitsFrom (now body) from)) × Small (digitsFrom (now body) from) × (frac ≤ 64) × (q < 2 ^ frac) ⌝ }
     ensures { λ r. ⌜ r ≡ orderTen (replicate zeros 0 ++ digitsFrom (now (body .entry)) from) ((q * 10 + 5) * 2 ^ (64 - frac)) (2 ^ 64) ⌝ }
 {

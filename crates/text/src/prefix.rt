@@ -15,7 +15,7 @@ use wide::Wide;
 const DIVISOR: u64 = 14901161193847656250;
 
 // Some digits as one number, with zeros after the last, and the position after them.
-pub struct Group {
+struct Group {
     pub value: u64,
     pub at: usize,
 }
@@ -54,7 +54,7 @@ fn lead(body: &[u8], from: usize, zeros: u32) -> Wide
 }
 
 // The whole part of val / 10^27 times 2^frac.
-pub fn first_raw(val: Wide, frac: u32) -> u64
+fn first_raw(val: Wide, frac: u32) -> u64
     requires { ⌜ (valueOf val < 10 ^ 27) × (frac ≤ 64) ⌝ }
     ensures { λ r. ⌜ r ≡ firstRaw frac (valueOf val) ⌝ }
 {
@@ -67,7 +67,7 @@ pub fn first_raw(val: Wide, frac: u32) -> u64
 }
 
 // What the first 27 digits make of the fraction times 2^frac.
-pub fn first(body: &[u8], from: usize, zeros: u32, frac: u32) -> u64
+pub(crate) fn first(body: &[u8], from: usize, zeros: u32, frac: u32) -> u64
     requires { ⌜ (from ≤ length (now body)) × (zeros ≤ 19) × Small (digitsFrom (now body) from) × (frac ≤ 64) ⌝ }
     ensures { λ r. ⌜ r ≡ firstRaw frac (leadOf 27 (replicate zeros 0 ++ digitsFrom (now (body .entry)) from)) ⌝ }
 {

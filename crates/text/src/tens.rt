@@ -91,7 +91,7 @@ fn below(body: &[u8], n: usize, places: u64, frac: u32) -> Folded
 }
 
 // The raw of the number with these digits, `after` of them after the point, times ten to the exponent.
-pub fn tens(body: &[u8], n: usize, after: usize, down: bool, exp: u64, frac: u32) -> Folded
+pub(crate) fn tens(body: &[u8], n: usize, after: usize, down: bool, exp: u64, frac: u32) -> Folded
     requires { ⌜ (n ≡ length (bodyOf (now body))) × (after ≤ n) × ((d : ℕ) → List·Memᴰ d (bodyOf (now body)) → d < 10) × (exp ≤ 2147483648) × (frac ≤ 64) × (length (now body) ≤ textLimit) ⌝ }
     ensures { λ r. ⌜ r ≡ foldOf (rawOf 10 frac (decimal (bodyOf (now (body .entry))) after down exp)) ⌝ }
 {

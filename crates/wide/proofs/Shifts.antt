@@ -3,16 +3,13 @@
 use mathlib.Core.Path.{_≡_, sym, ap, _∙_, subst}
 use Prim.Native.Nat.{ℕ, _+_, _-_, _*_, _/_, _%_, _^_, _≤_, _<_}
 use native.Mathlib.Omega.{arith}
-use native.Mathlib.Nat.{le-of-lt, lt-of-lt-of-le, add-mul, add-comm, zero-add, mul-assoc, mul-right-comm, sub-add-cancel, div-add-mod', mod-eq-of-lt, div-eq-of-lt, mul-div-cancel, mul-div-mul-right, mul-add-div-right, mul-add-mod-self-right, mul-mod-left}
+use native.Mathlib.Nat.{le-of-lt, lt-of-lt-of-le, add-mul, add-comm, zero-add, mul-assoc, mul-right-comm, div-add-mod', mod-eq-of-lt, div-eq-of-lt, mul-div-cancel, mul-div-mul-right, mul-add-div-right, mul-add-mod-self-right, mul-mod-left}
 use lib.Pow.{pow-pos, pow-add, pow-mono, shr-lt, shr-shr, high, mod-pow-add}
 use lib.Bits.{bitOr, or-mod, or-shifted}
+use Rattle.laws.specs.Powers.{power-sub}
 
 abbrev number : ℕ → ℕ → ℕ
 number h l = h * 2 ^ 64 + l
-
--- a power of two in two parts
-part : {k n : ℕ} → k ≤ n → 2 ^ n ≡ 2 ^ (n - k) * 2 ^ k
-part {k} {n} h = ap (λ (x : ℕ). 2 ^ x) (sym (sub-add-cancel {n = n} {m = k} h)) ∙ pow-add 2 (n - k) k
 
 -- a shift by one place and by 63 - k more is one by 64 - k, so that no shift is by 64
 places : {k : ℕ} → k < 64 → 1 + (63 - k) ≡ 64 - k
@@ -56,7 +53,7 @@ module _ (h l k : ℕ) where
     spill-lt = upper-lt k (64 - k) fl (omega arith)
 
     spill-is : l * 2 ^ k / 2 ^ 64 ≡ l / 2 ^ (64 - k)
-    spill-is = ap (λ (x : ℕ). l * 2 ^ k / x) (part (le-of-lt hk)) ∙ mul-div-mul-right {m = 2 ^ k} l (2 ^ (64 - k)) (pow-pos k)
+    spill-is = ap (λ (x : ℕ). l * 2 ^ k / x) (power-sub k 64 (le-of-lt hk)) ∙ mul-div-mul-right {m = 2 ^ k} l (2 ^ (64 - k)) (pow-pos k)
 
     high-left : bitOr (h * 2 ^ k % 2 ^ 64) (l / 2 / 2 ^ (63 - k)) ≡ number h l * 2 ^ k / 2 ^ 64 % 2 ^ 64
     high-left =
@@ -68,7 +65,7 @@ module _ (h l k : ℕ) where
 
     -- the quotient by words
     gather : number h l / 2 ^ k ≡ h * 2 ^ (64 - k) + l / 2 ^ k
-    gather = ap (λ (x : ℕ). (h * x + l) / 2 ^ k) (part (le-of-lt hk)) ∙ ap (λ (x : ℕ). (x + l) / 2 ^ k) (sym (mul-assoc h (2 ^ (64 - k)) (2 ^ k))) ∙ mul-add-div-right {m = 2 ^ k} (pow-pos k) (h * 2 ^ (64 - k)) l
+    gather = ap (λ (x : ℕ). (h * x + l) / 2 ^ k) (power-sub k 64 (le-of-lt hk)) ∙ ap (λ (x : ℕ). (x + l) / 2 ^ k) (sym (mul-assoc h (2 ^ (64 - k)) (2 ^ k))) ∙ mul-add-div-right {m = 2 ^ k} (pow-pos k) (h * 2 ^ (64 - k)) l
 
     low-right : bitOr (h * 2 % 2 ^ 64 * 2 ^ (63 - k) % 2 ^ 64) (l / 2 ^ k) ≡ number h l / 2 ^ k % 2 ^ 64
     low-right =
@@ -85,7 +82,7 @@ module _ (h l k : ℕ) where
 -- by 64 places and more
 module _ (h l k : ℕ) (hk : 64 ≤ k) where
   whole : number h l * 2 ^ k ≡ number h l * 2 ^ (k - 64) * 2 ^ 64
-  whole = ap (λ (x : ℕ). number h l * x) (part hk) ∙ sym (mul-assoc (number h l) (2 ^ (k - 64)) (2 ^ 64))
+  whole = ap (λ (x : ℕ). number h l * x) (power-sub 64 k hk) ∙ sym (mul-assoc (number h l) (2 ^ (k - 64)) (2 ^ 64))
 
   pub left-word : l * 2 ^ (k - 64) % 2 ^ 64 * 2 ^ 64 + 0 ≡ number h l * 2 ^ k % 2 ^ 128
   left-word =
@@ -99,7 +96,7 @@ module _ (h l k : ℕ) (hk : 64 ≤ k) where
 -- by 128 places and more
 module _ (v k : ℕ) (hk : 128 ≤ k) where
   pub left-none : 0 ≡ v * 2 ^ k % 2 ^ 128
-  left-none = sym (ap (λ (x : ℕ). v * x % 2 ^ 128) (part hk) ∙ ap (λ (x : ℕ). x % 2 ^ 128) (sym (mul-assoc v (2 ^ (k - 128)) (2 ^ 128))) ∙ mul-mod-left (v * 2 ^ (k - 128)) (2 ^ 128))
+  left-none = sym (ap (λ (x : ℕ). v * x % 2 ^ 128) (power-sub 128 k hk) ∙ ap (λ (x : ℕ). x % 2 ^ 128) (sym (mul-assoc v (2 ^ (k - 128)) (2 ^ 128))) ∙ mul-mod-left (v * 2 ^ (k - 128)) (2 ^ 128))
 
   pub right-none : v < 2 ^ 128 → 0 ≡ v / 2 ^ k
   right-none f = sym (div-eq-of-lt (lt-of-lt-of-le f (pow-mono hk)))

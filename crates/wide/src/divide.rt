@@ -9,13 +9,13 @@ use super::Wide;
 const BASE: u64 = 0x1_0000_0000;
 
 // A quotient of one word, and what the division leaves.
-pub struct Step {
+pub(crate) struct Step {
     pub quotient: u64,
     pub rest: u64,
 }
 
 // One word by d, with no division where the quotient is 0.
-pub fn word(x: u64, d: u64) -> Step
+pub(crate) fn word(x: u64, d: u64) -> Step
     requires { ⌜ 0 < d ⌝ }
     ensures { λ r. ⌜ r ≡ stepOf x d ⌝ }
 {
@@ -34,7 +34,7 @@ pub fn word(x: u64, d: u64) -> Step
 // One digit of a quotient, for a divisor with its top bit set. The upper half of d alone gives a guess, which is the digit or
 // up to two above it. `there` is what the guess leaves, and `back` the guess times the half of d that it forgot, which is to be
 // taken from that. Where there is too little, the guess was too high, and each d that is given back makes it one less.
-pub fn digit(high: u64, low: u64, d: u64) -> Step
+fn digit(high: u64, low: u64, d: u64) -> Step
     requires { ⌜ (2 ^ 63 ≤ d) × (high < d) × (low < 2 ^ 32) ⌝ }
     ensures { λ r. ⌜ r ≡ stepOf (high * 2 ^ 32 + low) d ⌝ }
 {
@@ -62,7 +62,7 @@ pub fn digit(high: u64, low: u64, d: u64) -> Step
 
 // A number of two words by d, for an upper word below d, so that the quotient is one word. Both are shifted until d has its
 // top bit set, which leaves the quotient as it is; the rest is shifted back.
-pub fn words(high: u64, low: u64, d: u64) -> Step
+pub(crate) fn words(high: u64, low: u64, d: u64) -> Step
     requires { ⌜ high < d ⌝ }
     ensures { λ r. ⌜ r ≡ stepOf (high * 2 ^ 64 + low) d ⌝ }
 {

@@ -7,8 +7,9 @@ use mir.Syntax.{w64}
 use mir.Val.{toZ, ofZ}
 use mir.Facts.{toZ-ofZ}
 use borrow.Author.Needs.{needs}
+use Rattle.format.specs.Fault.{frac-word}
 use Rattle.decimal.specs.Meaning.{textOf, rawText}
-use Rattle.decimal.proofs.Entry.{raw-text, frac-word, refuses, writes}
+use Rattle.decimal.proofs.Entry.{raw-text, refuses, writes}
 use Rattle.decimal.proofs.signed.write.Statement.{statement}
 use Rattle.decimal.proofs.signed.write.Tie as tie
 

@@ -2,8 +2,9 @@
 use mathlib.Core.Path.{refl}
 use lib.IntN.{pos}
 use borrow.Author.Needs.{needs}
+use Rattle.format.specs.Fault.{frac-word}
 use Rattle.decimal.specs.Meaning.{rawText}
-use Rattle.decimal.proofs.Entry.{frac-word, refuses, writes}
+use Rattle.decimal.proofs.Entry.{refuses, writes}
 use Rattle.decimal.proofs.unsigned.write.Statement.{statement}
 use Rattle.decimal.proofs.unsigned.write.Tie as tie
 

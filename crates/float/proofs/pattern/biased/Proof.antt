@@ -1,7 +1,8 @@
 -- `float::pattern::biased` meets its contract: a shift is a quotient and a mask a remainder. Assumes nothing.
 use Prim.Native.Nat.{_-_, _/_, _^_}
 use native.Mathlib.Omega.{arith}
-use Rattle.float.proofs.Masks.{masked, masked-below}
+use Rattle.format.specs.Place.{masked}
+use Rattle.float.proofs.Masks.{masked-below}
 use borrow.Author.Needs.{needs}
 use Rattle.float.proofs.pattern.biased.Statement.{statement}
 use Rattle.float.proofs.pattern.biased.Tie as tie
@@ -24,7 +25,7 @@ cast-result-2 c =
     record { fits = omega (arith, masked-below (a .pattern / 2 ^ (a .precision - 1)) (a .field) 11 (c .before .pre .field-most) (c .ones .ensures)) }
 
 returns : tie.Need-returns
-returns c = masked (c .before .args .pattern / 2 ^ (c .before .args .precision - 1)) (c .before .args .field) (c .ones .ensures)
+returns c = masked (c .before .args .pattern / 2 ^ (c .before .args .precision - 1)) (c .before .args .field) _ (c .ones .ensures)
 
 pub biased-spec : {M : Type 1} → statement M
 biased-spec =

@@ -7,7 +7,8 @@ use mir.Val.{toZ, ofZ}
 use mir.Facts.{toZ-ofZ}
 use lib.IntN.{pos}
 use Rattle.laws.specs.Signed.{signed, back, ok-back}
-use Rattle.log10.proofs.Entry.{refused-format, refused-number, answered, Positive, positive, frac-64}
+use Rattle.format.specs.Fault.{frac-word}
+use Rattle.log10.proofs.Entry.{refused-format, refused-number, answered, Positive, positive}
 use Rattle.log10.proofs.signed.log10.Statement.{statement}
 use Rattle.log10.proofs.signed.log10.Tie as tie
 
@@ -34,7 +35,7 @@ cast-of-positive : tie.Need-cast-of-positive
 cast-of-positive c = above-zero c .cast
 
 of-positive-requires : tie.Need-of-positive-requires
-of-positive-requires c κs = (above-zero c .above, frac-64 _ _ (c .before .before .check .ensures) (c .before .if1 .left))
+of-positive-requires c κs = (above-zero c .above, frac-word _ _ (c .before .before .check .ensures) (c .before .if1 .left))
 
 returns-3 : tie.Need-returns-3
 returns-3 c =

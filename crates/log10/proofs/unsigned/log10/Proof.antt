@@ -5,7 +5,8 @@ use native.Mathlib.Omega.{arith}
 use mir.Syntax.{w64}
 use Rattle.laws.specs.Diff.{orders}
 use Rattle.laws.specs.Signed.{ok-back}
-use Rattle.log10.proofs.Entry.{refused-format, refused-number, answered, frac-64}
+use Rattle.format.specs.Fault.{frac-word}
+use Rattle.log10.proofs.Entry.{refused-format, refused-number, answered}
 use Rattle.log10.proofs.unsigned.log10.Statement.{statement}
 use Rattle.log10.proofs.unsigned.log10.Tie as tie
 
@@ -19,7 +20,7 @@ returns-2 : tie.Need-returns-2
 returns-2 c = refused-number _ _ _ (c .before .before .check .ensures) (c .before .if1 .left) (omega (orders, c .if2 .taken))
 
 of-positive-requires : tie.Need-of-positive-requires
-of-positive-requires c κs = (omega arith, frac-64 _ _ (c .before .before .check .ensures) (c .before .if1 .left))
+of-positive-requires c κs = (omega arith, frac-word _ _ (c .before .before .check .ensures) (c .before .if1 .left))
 
 returns-3 : tie.Need-returns-3
 returns-3 c =

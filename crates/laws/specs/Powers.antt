@@ -1,0 +1,8 @@
+-- A power of two in two parts. Assumes nothing.
+use mathlib.Core.Path.{_≡_, ap, _∙_}
+use Prim.Native.Nat.{ℕ, _+_, _-_, _*_, _^_, _≤_}
+use native.Mathlib.Omega.{arith}
+use lib.Pow.{pow-add}
+
+pub power-sub : (i j : ℕ) → i ≤ j → 2 ^ j ≡ 2 ^ (j - i) * 2 ^ i
+power-sub i j h = let e : j ≡ (j - i) + i = omega arith in ap (λ (k : ℕ). 2 ^ k) e ∙ pow-add 2 (j - i) i
