@@ -1,5 +1,5 @@
-//! Compares the archive's arithmetic and byte order with an exact model over 128-bit integers, written here from document 01's words. Built and run by
-//! `oracle/program arith`.
+//! Compares the archive's arithmetic and byte order with an exact model over 128-bit integers, written from document
+//! 01's words. Built and run by `oracle/program arith`.
 
 mod common;
 

@@ -1,4 +1,5 @@
-//! Holds the archive's conversions from format to format against document 01's words over 128-bit integers. Built and run by `oracle/program convert`.
+//! Holds the archive's conversions from format to format against document 01's words over 128-bit integers. Built and
+//! run by `oracle/program convert`.
 
 mod common;
 

@@ -1,4 +1,5 @@
-//! Compares the archive's writer with an exact model, written here from document 01's words. Built and run by `oracle/program decimal`.
+//! Compares the archive's writer with an exact model, written here from document 01's words. Built and run by
+//! `oracle/program decimal`.
 
 mod common;
 

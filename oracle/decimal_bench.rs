@@ -1,4 +1,5 @@
-//! The writer's speed against Rust's own formatting of an integer with as many digits, in one process. Built and run by `oracle/program decimal_bench`.
+//! The writer's speed against Rust's own formatting of an integer with as many digits, in one process. Built and run by
+//! `oracle/program decimal_bench`.
 
 mod common;
 

@@ -1,5 +1,5 @@
-//! Compares the archive's whole numbers and further arithmetic with an exact model over 128-bit integers, written here from the documentation's words.
-//! Built and run by `oracle/program further`.
+//! Compares the archive's whole numbers and further arithmetic with an exact model over 128-bit integers, written from
+//! the documentation's words. Built and run by `oracle/program further`.
 
 mod common;
 

@@ -37,8 +37,9 @@ pub type OneUnsigned = unsafe extern "C" fn(a: u64, width: u32, frac: u32, manne
 pub type TwoSigned = unsafe extern "C" fn(a: i64, b: i64, width: u32, frac: u32, manner: u32) -> Signed;
 pub type TwoUnsigned = unsafe extern "C" fn(a: u64, b: u64, width: u32, frac: u32, manner: u32) -> Unsigned;
 
-/// `answer!(signed, of_signed | of_unsigned, [raw, ..], other, ..)`: what the function of a format's family answers to raws and other arguments.
-/// The raws are `i128`, and of the family. Pointers among the others are of buffers that are there, as long as is said.
+/// `answer!(signed, of_signed | of_unsigned, [raw, ..], other, ..)`: what the function of a format's family answers to
+/// raws and other arguments. The raws are `i128`. SAFETY: pointers among the others are of buffers that are there, and as
+/// long as is said.
 macro_rules! answer {
     ($signed:expr, $of_signed:ident | $of_unsigned:ident, [$($raw:expr),*], $($other:expr),*) => {
         match $signed {
@@ -49,7 +50,8 @@ macro_rules! answer {
 }
 pub(crate) use answer;
 
-/// `raws! { (raw, ..; number, ..) signed unsigned, .. }`: functions of one shape, which take raws of a family and numbers, and answer a raw.
+/// `raws! { (raw, ..; number, ..) signed unsigned, .. }`: functions of one shape, which take raws of a family and numbers,
+/// and answer a raw.
 macro_rules! raws {
     ($shape:tt $($signed:ident $unsigned:ident),*) => { $(raws!(@ $shape $signed $unsigned);)* };
     (@ ($($raw:ident),*; $($number:ident),*) $signed:ident $unsigned:ident) => {

@@ -47,8 +47,9 @@ pub fn edges(signed: bool, width: u32) -> Vec<i128> {
     all
 }
 
-/// Hands out numbers that are worth asking one by one and in pairs, and thirds to go with the pairs: all raws of W = 8 in every manner; the
-/// edges of every width in every format, also in narrower ones, which could not hold them; and what is no format.
+/// Hands out numbers that are worth asking one by one and in pairs, and thirds to go with the pairs: all raws of W = 8 in
+/// every manner; the edges of every width in every width, also in narrower ones, which could not hold them; and what is no
+/// format.
 pub fn every_case(signed: bool, mut ask: impl FnMut(Format, u32, &[i128], &[i128])) {
     let narrow = Format { signed, width: 8, frac: 0 };
     let all: Vec<i128> = (narrow.lowest()..=narrow.highest()).collect();
