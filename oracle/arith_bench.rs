@@ -90,8 +90,7 @@ width!(unsigned32, u32, u64, u64, tq_add_unsigned, tq_mul_unsigned, tq_div_unsig
 width!(unsigned64, u64, u128, u64, tq_add_unsigned, tq_mul_unsigned, tq_div_unsigned);
 
 fn line<T: Copy, P, R>(of: &str, name: &str, pairs: &[(T, T)], port: impl Fn(T, T) -> P, rust: impl Fn(T, T) -> R) {
-    let (of_port, of_rust) =
-        in_turns(ROUNDS, || each(pairs, |(a, b)| port(*a, *b)), || each(pairs, |(a, b)| rust(*a, *b)));
+    let (of_port, of_rust) = in_turns(ROUNDS, || each(pairs, |(a, b)| port(a, b)), || each(pairs, |(a, b)| rust(a, b)));
     let (of_port, of_rust) = (of_port.median(), of_rust.median());
     println!("{of} {name}: Rust {of_rust:.1} ns, the port {of_port:.1} ns, ratio {:.2}", of_port / of_rust);
 }

@@ -64,8 +64,8 @@ fn main() {
         let (mut ours, mut theirs) = ([0u8; 67], [0u8; 67]);
         let (of_port, of_rust) = in_turns(
             ROUNDS,
-            || each(&raws, |raw| port(*raw, width, frac, black_box(&mut ours))),
-            || each(&integers, |n| formatted(*n, black_box(&mut theirs))),
+            || each(&raws, |raw| port(raw, width, frac, black_box(&mut ours))),
+            || each(&integers, |n| formatted(n, black_box(&mut theirs))),
         );
         println!("W = {width}, F = {frac}, {length:.1} bytes: ratio {:.2}", of_port.fastest() / of_rust.fastest());
     }

@@ -199,8 +199,8 @@ fn time(kind: &str, mut raw: impl FnMut(u32) -> u64) {
         let raws: Vec<u64> = (0..RAWS).map(|_| raw(width).max(1)).collect();
         let (ours, theirs) = in_turns(
             PASSES,
-            || each(&raws, |raw| unsafe { tq_log10_unsigned(*raw, width, frac).value }),
-            || each(&raws, |raw| of_s(*raw)),
+            || each(&raws, |raw| unsafe { tq_log10_unsigned(raw, width, frac).value }),
+            || each(&raws, of_s),
         );
         let (ours, theirs) = (ours.fastest(), theirs.fastest());
         println!("time W {width} F {frac}, {kind}: ours {ours:.2} ns, S {theirs:.2} ns, ratio {:.2}", ours / theirs);

@@ -36,10 +36,10 @@ pub fn once<R>(work: impl FnOnce() -> R) -> f64 {
 }
 
 /// Nanoseconds for each of the items.
-pub fn each<T, R>(items: &[T], mut work: impl FnMut(&T) -> R) -> f64 {
+pub fn each<T: Copy, R>(items: &[T], mut work: impl FnMut(T) -> R) -> f64 {
     let all = once(|| {
         for item in items {
-            black_box(work(black_box(item)));
+            black_box(work(black_box(*item)));
         }
     });
     all / items.len() as f64

@@ -14,11 +14,8 @@ pub fn bench(seed: u64) {
     let mut random = Random::new(seed);
     for length in LENGTHS {
         let texts: Vec<Vec<u8>> = (0..TEXTS).map(|_| text(&mut random, length)).collect();
-        let (of_port, of_s) = in_turns(
-            ROUNDS,
-            || each(&texts, |text| read_by_port(text)),
-            || each(&texts, |text| original::reads_i32f32(text)),
-        );
+        let texts: Vec<&[u8]> = texts.iter().map(Vec::as_slice).collect();
+        let (of_port, of_s) = in_turns(ROUNDS, || each(&texts, read_by_port), || each(&texts, original::reads_i32f32));
         let (of_port, of_s) = (of_port.fastest(), of_s.fastest());
         match read_by_port(b"1") {
             true => println!("{length} digits: S {of_s:.1} ns, the port {of_port:.1} ns, ratio {:.2}", of_port / of_s),
