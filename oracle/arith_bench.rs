@@ -1,25 +1,19 @@
-// The arithmetic's speed against the same in Rust, in one process: sum, product and quotient, strict and wrapping, of each width and
-// sign, F = W / 2. Built and run by oracle/program.
-//
-// The Rust side is what the crate `fixed` does: the double width, a shift, and for strict a test of whether the number fits. F is a
-// constant there, as it is in a type; here it is an argument. Neither side is inlined into the loop.
+//! The arithmetic's speed against the same in Rust, in one process: sum, product and quotient, strict and wrapping, of each width and
+//! sign, F = W / 2. Built and run by `oracle/program arith_bench`.
+//!
+//! The Rust side is what the crate `fixed` does: the double width, a shift, and for strict a test of whether the number fits. F is a
+//! constant there, as it is in a type; here it is an argument. Neither side is inlined into the loop.
 
-#[path = "capi.rs"]
-mod capi;
-#[allow(dead_code)]
-#[path = "src/random.rs"]
-mod random;
+mod common;
 
-use capi::*;
-use random::Random;
+use common::capi::*;
+use common::format::{STRICT, WRAPPING};
+use common::random::Random;
+use common::timing::{each, in_turns};
 use std::hint::black_box;
-use std::time::Instant;
 
 const PAIRS: usize = 4096;
-/// Both sides take turns; the median of each counts.
 const ROUNDS: usize = 101;
-const STRICT: u32 = 0;
-const WRAPPING: u32 = 2;
 
 /// One width and sign: the lines of its three operations.
 macro_rules! width {
@@ -95,27 +89,9 @@ width!(unsigned16, u16, u32, u64, tq_add_unsigned, tq_mul_unsigned, tq_div_unsig
 width!(unsigned32, u32, u64, u64, tq_add_unsigned, tq_mul_unsigned, tq_div_unsigned);
 width!(unsigned64, u64, u128, u64, tq_add_unsigned, tq_mul_unsigned, tq_div_unsigned);
 
-/// Nanoseconds for each pair.
-fn round<T: Copy, R>(pairs: &[(T, T)], operation: impl Fn(T, T) -> R) -> f64 {
-    let start = Instant::now();
-    for (a, b) in pairs {
-        black_box(operation(black_box(*a), black_box(*b)));
-    }
-    start.elapsed().as_secs_f64() * 1e9 / pairs.len() as f64
-}
-
-fn median(mut times: Vec<f64>) -> f64 {
-    times.sort_by(f64::total_cmp);
-    times[times.len() / 2]
-}
-
 fn line<T: Copy, P, R>(of: &str, name: &str, pairs: &[(T, T)], port: impl Fn(T, T) -> P, rust: impl Fn(T, T) -> R) {
-    let (mut of_port, mut of_rust) = (Vec::new(), Vec::new());
-    for _ in 0..ROUNDS {
-        of_rust.push(round(pairs, &rust));
-        of_port.push(round(pairs, &port));
-    }
-    let (of_port, of_rust) = (median(of_port), median(of_rust));
+    let (of_port, of_rust) = in_turns(ROUNDS, || each(pairs, |(a, b)| port(a, b)), || each(pairs, |(a, b)| rust(a, b)));
+    let (of_port, of_rust) = (of_port.median(), of_rust.median());
     println!("{of} {name}: Rust {of_rust:.1} ns, the port {of_port:.1} ns, ratio {:.2}", of_port / of_rust);
 }
 

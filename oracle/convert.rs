@@ -1,17 +1,14 @@
-//! Holds the archive's conversions from format to format against document 01's words over 128-bit integers. Built and run by `oracle/program convert`.
+//! Holds the archive's conversions from format to format against document 01's words over 128-bit integers. Built and
+//! run by `oracle/program convert`.
 
 mod common;
-mod manner;
 
-use common::{Answer, Random, Signed, Tally, Unsigned};
-use manner::{Exact, Format, MANNERS, NO_FORMATS, WIDTHS, edges, operand};
-
-unsafe extern "C" {
-    fn tq_convert_signed_to_signed(raw: i64, fw: u32, ff: u32, width: u32, frac: u32, manner: u32) -> Signed;
-    fn tq_convert_signed_to_unsigned(raw: i64, fw: u32, ff: u32, width: u32, frac: u32, manner: u32) -> Unsigned;
-    fn tq_convert_unsigned_to_signed(raw: u64, fw: u32, ff: u32, width: u32, frac: u32, manner: u32) -> Signed;
-    fn tq_convert_unsigned_to_unsigned(raw: u64, fw: u32, ff: u32, width: u32, frac: u32, manner: u32) -> Unsigned;
-}
+use common::capi::*;
+use common::exact::Exact;
+use common::format::{Answer, Format, MANNERS};
+use common::random::Random;
+use common::tally::Tally;
+use common::telling::{ANY_MANNER, edges, format, no_formats, operand};
 
 fn found(raw: i128, from: Format, to: Format, manner: u32) -> Answer {
     let (fw, ff, width, frac) = (from.width, from.frac, to.width, to.frac);
@@ -33,12 +30,10 @@ fn exact(raw: i128, from: u32, to: u32) -> Exact {
     }
 }
 
-/// A wrong width on either side goes before wrong fraction bits on either side.
 fn wanted(raw: i128, from: Format, to: Format, manner: u32) -> Answer {
-    match (from.fault(), to.fault()) {
-        (1, _) | (_, 1) => Answer::refused(1),
-        (2, _) | (_, 2) => Answer::refused(2),
-        _ => exact(raw, from.frac, to.frac).settled(to, manner),
+    match Format::refusal_of_both(from, to) {
+        Some(number) => Answer::refused(number),
+        None => exact(raw, from.frac, to.frac).settled(to, manner),
     }
 }
 
@@ -55,11 +50,11 @@ const SIGNS: [(bool, bool); 4] = [(true, true), (true, false), (false, true), (f
 fn narrow(t: &mut Tally, signs: (bool, bool)) {
     let all = Format { signed: signs.0, width: 8, frac: 0 };
     let outside = edges(signs.0, 64).into_iter().chain(edges(signs.0, 16));
-    let raws: Vec<i128> = (all.least()..=all.most()).chain(outside).collect();
+    let raws: Vec<i128> = (all.lowest()..=all.highest()).chain(outside).collect();
     for frac in 0..=8 {
         for to in Format::all(signs.1) {
             for &raw in &raws {
-                for manner in 0..4 {
+                for manner in MANNERS {
                     compare(t, raw, Format { frac, ..all }, to, manner);
                 }
             }
@@ -70,12 +65,12 @@ fn narrow(t: &mut Tally, signs: (bool, bool)) {
 /// The edges of a format, and the numbers whose result is at an edge of the target.
 fn telling(from: Format, to: Format) -> Vec<i128> {
     let mut raws = edges(from.signed, from.width);
-    for end in [to.least(), to.most() + 1] {
+    for end in [to.lowest(), to.highest() + 1] {
         let at = if to.frac >= from.frac { end >> (to.frac - from.frac) } else { end << (from.frac - to.frac) };
         raws.extend([at - 1, at, at + 1]);
     }
     let held = Format { signed: from.signed, width: 64, frac: 0 };
-    raws.retain(|raw| (held.least()..=held.most()).contains(raw));
+    raws.retain(|raw| held.holds(*raw));
     raws
 }
 
@@ -84,7 +79,7 @@ fn wide(t: &mut Tally, signs: (bool, bool)) {
     for from in Format::all(signs.0) {
         for to in Format::all(signs.1) {
             for raw in telling(from, to) {
-                for manner in 0..4 {
+                for manner in MANNERS {
                     compare(t, raw, from, to, manner);
                 }
             }
@@ -95,12 +90,12 @@ fn wide(t: &mut Tally, signs: (bool, bool)) {
 /// What is no format, on one side or on both; and numbers of manners that are none.
 fn refused(t: &mut Tally, signs: (bool, bool)) {
     let some = |signed| {
-        let good = [(8, 4), (64, 64), (16, 0)];
-        good.into_iter().chain(NO_FORMATS).map(move |(width, frac)| Format { signed, width, frac })
+        let good = [(8, 4), (64, 64), (16, 0)].map(|(width, frac)| Format { signed, width, frac });
+        good.into_iter().chain(no_formats(signed))
     };
     for from in some(signs.0) {
         for to in some(signs.1) {
-            for manner in MANNERS {
+            for manner in ANY_MANNER {
                 for raw in [0, 1, 255, 1 << 40] {
                     compare(t, raw, from, to, manner);
                 }
@@ -111,19 +106,15 @@ fn refused(t: &mut Tally, signs: (bool, bool)) {
 
 fn at_random(t: &mut Tally, signs: (bool, bool), random: &mut Random) {
     for _ in 0..1_000_000 {
-        let mut format = |signed| {
-            let width = random.pick(&WIDTHS);
-            Format { signed, width, frac: random.below(width as usize + 1) as u32 }
-        };
-        let (from, to) = (format(signs.0), format(signs.1));
+        let (from, to) = (format(random, signs.0), format(random, signs.1));
         let raw = operand(random, signs.0);
-        compare(t, raw, from, to, random.pick(&MANNERS));
+        compare(t, raw, from, to, random.pick(&ANY_MANNER));
     }
 }
 
 fn main() {
     let mut t = Tally::default();
-    let mut random = Random(1);
+    let mut random = Random::new(1);
     for signs in SIGNS {
         narrow(&mut t, signs);
         wide(&mut t, signs);

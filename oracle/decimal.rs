@@ -1,13 +1,16 @@
-// Compares the archive's writer with an exact model, written here from document 01's words. Built and run by oracle/program.
+//! Compares the archive's writer with an exact model, written here from document 01's words. Built and run by
+//! `oracle/program decimal`.
 
-#[path = "capi.rs"]
-mod capi;
+mod common;
 
-use capi::*;
+use common::capi::*;
+use common::format::{Answer, Format, WIDTHS};
+use common::random::Random;
+use common::tally::Tally;
 
 // ---- the model: r / 2^F is r x 5^F / 10^F, in decimal digits throughout
 
-// The decimal digits of n x 5^F, last digit first.
+/// The decimal digits of n x 5^F, last digit first.
 fn times_five(n: u64, frac: u32) -> Vec<u8> {
     let mut digits: Vec<u8> = n.to_string().bytes().rev().map(|b| b - b'0').collect();
     for _ in 0..frac {
@@ -50,146 +53,113 @@ fn model(neg: bool, magnitude: u64, frac: u32) -> Vec<u8> {
 
 // ---- one call: the answer and the buffer, for a buffer of some length
 
-struct Tally {
-    passed: u64,
-    failed: u64,
+/// The longest text.
+const LONGEST: usize = 67;
+const ROOM: usize = 80;
+
+fn put(raw: i128, Format { signed, width, frac }: Format, out: &mut [u8]) -> Answer {
+    answer!(signed, tq_write_signed | tq_write_unsigned, [raw], width, frac, out.as_mut_ptr(), out.len())
 }
 
-fn put(raw: i128, signed: bool, width: u32, frac: u32, out: &mut [u8]) -> Unsigned {
-    if signed {
-        unsafe { tq_write_signed(raw as i64, width, frac, out.as_mut_ptr(), out.len()) }
-    } else {
-        unsafe { tq_write_unsigned(raw as u64, width, frac, out.as_mut_ptr(), out.len()) }
-    }
+fn text_of(raw: i128, format: Format) -> Vec<u8> {
+    model(raw < 0, raw.unsigned_abs() as u64, format.frac)
 }
 
-fn check(t: &mut Tally, raw: i128, signed: bool, width: u32, frac: u32, room: usize) {
-    let text = model(raw < 0, raw.unsigned_abs() as u64, frac);
-    let mut out = [b'*'; 80];
-    let mut want = [b'*'; 80];
-    let answer = put(raw, signed, width, frac, &mut out[..room]);
-    let expected = if text.len() <= room {
-        want[..text.len()].copy_from_slice(&text);
-        Unsigned { number: 0, flag: 0, value: text.len() as u64 }
+fn check(t: &mut Tally, raw: i128, format: Format, room: usize) {
+    let text = text_of(raw, format);
+    let (mut out, mut left) = ([b'*'; ROOM], [b'*'; ROOM]);
+    let found = put(raw, format, &mut out[..room]);
+    let wanted = if text.len() <= room {
+        left[..text.len()].copy_from_slice(&text);
+        Answer::done(text.len() as i128, false)
     } else {
-        Unsigned { number: 5, flag: 0, value: 0 }
+        Answer::refused(5)
     };
-    if answer == expected && out == want && text.len() <= 67 {
-        t.passed += 1;
-    } else {
-        t.failed += 1;
-        if t.failed < 10 {
-            println!("raw {raw} signed {signed} W {width} F {frac} room {room}: {answer:?}, expected {expected:?}");
-        }
-    }
+    t.see(found == wanted && out == left && text.len() <= LONGEST, || {
+        format!("raw {raw}, {format:?}, room {room}: found {found:?} {out:?}, wanted {wanted:?} {left:?}")
+    });
 }
 
-// a buffer with room to spare, of exactly the length, one less, and none
-fn every_room(t: &mut Tally, raw: i128, signed: bool, width: u32, frac: u32) {
-    let n = model(raw < 0, raw.unsigned_abs() as u64, frac).len();
-    for room in [80, n, n - 1, 0] {
-        check(t, raw, signed, width, frac, room);
-    }
+/// A buffer with room to spare, of exactly the length, one less, and none.
+fn every_room(t: &mut Tally, raw: i128, format: Format) {
+    let n = text_of(raw, format).len();
+    [ROOM, n, n - 1, 0].iter().for_each(|room| check(t, raw, format, *room));
 }
 
-fn whole_format(t: &mut Tally, signed: bool, width: u32, frac: u32) {
-    let low: i128 = if signed { -(1 << (width - 1)) } else { 0 };
-    for k in 0..(1i128 << width) {
-        check(t, low + k, signed, width, frac, 67);
-    }
+fn whole_format(t: &mut Tally, format: Format) {
+    (format.lowest()..=format.highest()).for_each(|raw| check(t, raw, format, LONGEST));
 }
 
 fn refused(t: &mut Tally, width: u32, frac: u32, number: u32) {
     for signed in [true, false] {
-        for room in [0, 67] {
-            let mut out = [b'*'; 67];
-            let answer = put(1, signed, width, frac, &mut out[..room]);
-            if answer == (Unsigned { number, flag: 0, value: 0 }) && out == [b'*'; 67] {
-                t.passed += 1;
-            } else {
-                t.failed += 1;
-                println!("W {width} F {frac}: {answer:?}, expected {number}");
-            }
+        for room in [0, LONGEST] {
+            let mut out = [b'*'; LONGEST];
+            let found = put(1, Format { signed, width, frac }, &mut out[..room]);
+            t.see(found == Answer::refused(number) && out == [b'*'; LONGEST], || {
+                format!("W = {width}, F = {frac}: found {found:?} {out:?}, wanted {number}")
+            });
         }
     }
 }
 
-// every raw of W = 8 with every F, and of W = 16 with several
-fn narrow(t: &mut Tally) {
-    for signed in [true, false] {
-        for frac in 0..=8 {
-            whole_format(t, signed, 8, frac);
-        }
-        for frac in [0, 1, 7, 8, 15, 16] {
-            whole_format(t, signed, 16, frac);
-        }
+/// Every raw of W = 8 with every F, and of W = 16 with several.
+fn narrow(t: &mut Tally, signed: bool) {
+    (0..=8).for_each(|frac| whole_format(t, Format { signed, width: 8, frac }));
+    [0, 1, 7, 8, 15, 16].iter().for_each(|frac| whole_format(t, Format { signed, width: 16, frac: *frac }));
+}
+
+/// The ends of every format, 0, 1 and -1, in every buffer.
+fn ends(t: &mut Tally, signed: bool) {
+    for format in Format::all(signed) {
+        let raws: &[i128] = match signed {
+            true => &[format.lowest(), -1, 0, 1, format.highest()],
+            false => &[0, 1, format.highest()],
+        };
+        raws.iter().for_each(|raw| every_room(t, *raw, format));
     }
 }
 
-// the ends of every format, 0, 1 and -1, in every buffer
-fn ends(t: &mut Tally) {
-    for width in [8u32, 16, 32, 64] {
-        for frac in 0..=width {
-            let half = 1i128 << (width - 1);
-            for raw in [-half, -1, 0, 1, half - 1] {
-                every_room(t, raw, true, width, frac);
-            }
-            for raw in [0, 1, 2 * half - 1] {
-                every_room(t, raw, false, width, frac);
-            }
-        }
-    }
-}
-
-// the powers of ten and of two, in every buffer
+/// The powers of ten and of two, in every buffer.
 fn powers(t: &mut Tally) {
+    let tens = (0..20).map(|k| 10i128.pow(k));
+    let twos = (0..64).map(|k| 1i128 << k);
+    let raws: Vec<i128> = tens.chain(twos).flat_map(|power| [power - 1, power]).collect();
     for frac in 0..=64 {
-        for k in 0..20 {
-            for raw in [10i128.pow(k) - 1, 10i128.pow(k)] {
-                every_room(t, raw, false, 64, frac);
-            }
-        }
-        for k in 0..64 {
-            every_room(t, 1 << k, false, 64, frac);
-            every_room(t, (1 << k) - 1, false, 64, frac);
-        }
+        raws.iter().for_each(|raw| every_room(t, *raw, Format { signed: false, width: 64, frac }));
     }
 }
 
-// wide raws at random, also where the format could not hold them
+/// Wide raws at random, also where the format could not hold them.
 fn at_random(t: &mut Tally) {
-    let mut x: u64 = 0x9e37_79b9_7f4a_7c15;
-    for i in 0..400_000u64 {
-        x ^= x << 13;
-        x ^= x >> 7;
-        x ^= x << 17;
-        let width = [8, 16, 32, 64][(i % 4) as usize];
-        let frac = (x >> 40) as u32 % (width + 1);
-        let raw = x >> (i / 4 % 64);
-        check(t, raw as i128, false, width, frac, 67);
-        check(t, raw as i64 as i128, true, width, frac, 67);
+    let mut random = Random::new(1);
+    for _ in 0..400_000 {
+        let width = random.pick(&WIDTHS);
+        let frac = random.below(width as usize + 1) as u32;
+        let raw = random.sized(64);
+        check(t, i128::from(raw), Format { signed: false, width, frac }, LONGEST);
+        check(t, i128::from(raw as i64), Format { signed: true, width, frac }, LONGEST);
     }
 }
 
-// the refusals in their order
+/// The refusals in their order.
 fn refusals(t: &mut Tally) {
     for frac in [0, 8, 65] {
-        for width in [0, 7, 9, 63, 65, u32::MAX] {
-            refused(t, width, frac, 1);
-        }
+        [0, 7, 9, 63, 65, u32::MAX].iter().for_each(|width| refused(t, *width, frac, 1));
     }
-    for width in [8, 16, 32, 64] {
+    for width in WIDTHS {
         refused(t, width, width + 1, 2);
         refused(t, width, u32::MAX, 2);
     }
 }
 
 fn main() {
-    let mut t = Tally { passed: 0, failed: 0 };
-    narrow(&mut t);
-    ends(&mut t);
+    let mut t = Tally::default();
+    for signed in [true, false] {
+        narrow(&mut t, signed);
+        ends(&mut t, signed);
+    }
     powers(&mut t);
     at_random(&mut t);
     refusals(&mut t);
-    println!("{} passed, {} failed", t.passed, t.failed);
+    t.close()
 }

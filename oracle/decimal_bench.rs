@@ -1,26 +1,16 @@
-// The writer's speed against Rust's own formatting of an integer with as many digits, in one process. Built and run by oracle/program.
+//! The writer's speed against Rust's own formatting of an integer with as many digits, in one process. Built and run by
+//! `oracle/program decimal_bench`.
 
-#[path = "capi.rs"]
-mod capi;
+mod common;
 
-use capi::*;
+use common::capi::*;
+use common::random::Random;
+use common::timing::{each, in_turns};
 use std::hint::black_box;
 use std::io::Write;
-use std::time::Instant;
 
 const RAWS: usize = 4096;
-// Both sides take turns; the fastest round of each counts, since everything else on the machine only slows one down.
 const ROUNDS: usize = 200;
-
-// Nanoseconds for each of the numbers.
-fn round<T: Copy>(numbers: &[T], write: impl Fn(T, &mut [u8; 67])) -> f64 {
-    let mut out = [0u8; 67];
-    let start = Instant::now();
-    for n in numbers {
-        write(black_box(*n), black_box(&mut out));
-    }
-    start.elapsed().as_secs_f64() * 1e9 / numbers.len() as f64
-}
 
 fn port(raw: i64, width: u32, frac: u32, out: &mut [u8; 67]) -> Unsigned {
     unsafe { tq_write_signed(raw, width, frac, out.as_mut_ptr(), out.len()) }
@@ -36,27 +26,24 @@ fn formatted(n: u128, out: &mut [u8; 67]) {
     .unwrap();
 }
 
-// The integer whose digits are those of the text: what Rust would have to format.
+/// The integer whose digits are those of the text: what Rust would have to format.
 fn digits(text: &[u8]) -> u128 {
     text.iter().filter(|b| b.is_ascii_digit()).fold(0, |n, b| n * 10 + u128::from(b - b'0'))
 }
 
-// Raws of a format, and the integers whose digits are those of their texts.
+/// Raws of a format, and the integers whose digits are those of their texts.
 struct Sample {
     raws: Vec<i64>,
     integers: Vec<u128>,
-    // bytes of a text, on the mean
+    /// bytes of a text, on the mean
     length: f64,
 }
 
-fn sample(x: &mut u64, width: u32, frac: u32) -> Sample {
+fn sample(random: &mut Random, width: u32, frac: u32) -> Sample {
     let (mut raws, mut integers, mut length) = (Vec::new(), Vec::new(), 0);
     while raws.len() < RAWS {
-        *x ^= *x << 13;
-        *x ^= *x >> 7;
-        *x ^= *x << 17;
         // odd, so that no digit of the fraction is missing; positive, since the integers have no sign
-        let raw = (*x >> (65 - width) | 1) as i64;
+        let raw = (random.next() >> (65 - width) | 1) as i64;
         let mut out = [0u8; 67];
         let answer = port(raw, width, frac, &mut out);
         assert_eq!((answer.number, answer.flag), (0, 0), "raw {raw}, W = {width}, F = {frac}");
@@ -71,16 +58,15 @@ fn sample(x: &mut u64, width: u32, frac: u32) -> Sample {
 }
 
 fn main() {
-    let mut x: u64 = 0x9e37_79b9_7f4a_7c15;
+    let mut random = Random::new(1);
     for (width, frac) in [(8, 7), (16, 15), (32, 0), (32, 16), (64, 0), (64, 20)] {
-        let Sample { raws, integers, length } = sample(&mut x, width, frac);
-        let (mut of_rust, mut of_port) = (f64::MAX, f64::MAX);
-        for _ in 0..ROUNDS {
-            of_rust = of_rust.min(round(&integers, formatted));
-            of_port = of_port.min(round(&raws, |raw, out| {
-                black_box(port(raw, width, frac, out));
-            }));
-        }
-        println!("W = {width}, F = {frac}, {length:.1} bytes: ratio {:.2}", of_port / of_rust);
+        let Sample { raws, integers, length } = sample(&mut random, width, frac);
+        let (mut ours, mut theirs) = ([0u8; 67], [0u8; 67]);
+        let (of_port, of_rust) = in_turns(
+            ROUNDS,
+            || each(&raws, |raw| port(raw, width, frac, black_box(&mut ours))),
+            || each(&integers, |n| formatted(n, black_box(&mut theirs))),
+        );
+        println!("W = {width}, F = {frac}, {length:.1} bytes: ratio {:.2}", of_port.fastest() / of_rust.fastest());
     }
 }

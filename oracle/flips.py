@@ -41,16 +41,11 @@ def notices(program, folder, arguments):
     return run.returncode != 0 or not run.stdout.rstrip().endswith(b" 0 failed")
 
 
-def edition(source):
-    """Programs without `unsafe extern` are of the edition before."""
-    return "2024" if 'unsafe extern "C" {' in open(source).read() else "2021"
-
-
 def main(archive, source, functions, count="100", seed="1", *arguments):
     with tempfile.TemporaryDirectory() as folder:
         library, program = os.path.join(folder, "libcapi.so"), os.path.join(folder, "program")
         output("cc", "-shared", "-o", library, "-Wl,--whole-archive", archive, "-Wl,--no-whole-archive")
-        output("rustc", "-O", "--edition", edition(source), "-o", program, source, "-L", "native=" + folder, "-l", "dylib=capi")
+        output("rustc", "-O", "--edition", "2024", "-o", program, source, "-L", "native=" + folder, "-l", "dylib=capi")
         if notices(program, folder, arguments):
             sys.exit("the archive itself fails")
         whole, sound = open(library, "rb").read(), instructions(library)

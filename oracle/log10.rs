@@ -1,39 +1,28 @@
-// Compares the archive's logarithm with S's own src/log10.rs, compiled here unchanged, and with an exact model, and times both.
-// Built and run by oracle/program.
+//! Compares the archive's logarithm with S's own src/log10.rs, compiled here unchanged, and with an exact model, and times both.
+//! Built and run by `oracle/program log10 --s FOLDER`.
 
-#[path = "capi.rs"]
-mod capi;
+mod common;
 
-use capi::*;
-use std::hint::black_box;
+use common::capi::*;
+use common::format::{Answer, Format};
+use common::random::Random;
+use common::tally::Tally;
+use common::timing::{each, in_turns};
 use std::num::NonZero;
-use std::time::Instant;
 
-// S's file, as it is. Functions of it that no width here needs (u128) stay unused.
+/// S's file, as it is. Functions of it that no width here needs (u128) stay unused.
 #[allow(dead_code)]
 mod s_log10 {
     include!(concat!(env!("S_FOLDER"), "/log10.rs"));
 }
 
-fn ours_signed(raw: i64, width: u32, frac: u32) -> Signed {
-    unsafe { tq_log10_signed(raw, width, frac) }
-}
-
-fn ours_unsigned(raw: u64, width: u32, frac: u32) -> Signed {
-    unsafe { tq_log10_unsigned(raw, width, frac) }
+fn ours(raw: i128, Format { signed, width, frac }: Format) -> Answer {
+    answer!(signed, tq_log10_signed | tq_log10_unsigned, [raw], width, frac)
 }
 
 // ---- what must come out
 
-fn done(k: i32) -> Signed {
-    Signed { number: 0, flag: 0, value: k as i64 }
-}
-
-fn refused(number: u32) -> Signed {
-    Signed { number, flag: 0, value: 0 }
-}
-
-// 10^k <= raw / 2^frac, exactly: a product past 128 bits is above whatever it is compared with.
+/// 10^k <= raw / 2^frac, exactly: a product past 128 bits is above whatever it is compared with.
 fn reaches(raw: u64, frac: u32, k: i32) -> bool {
     let ten = |n: i32| 10u128.checked_pow(n as u32);
     if k >= 0 {
@@ -45,27 +34,22 @@ fn reaches(raw: u64, frac: u32, k: i32) -> bool {
     }
 }
 
-// The greatest k with 10^k <= raw / 2^frac, by looking at every k.
+/// The greatest k with 10^k <= raw / 2^frac, by looking at every k.
 fn exact(raw: u64, frac: u32) -> i32 {
     (-30..=30).rev().find(|&k| reaches(raw, frac, k)).unwrap()
 }
 
-// The whole answer, refusals in 01's order.
-fn model(raw: i128, width: u32, frac: u32) -> Signed {
-    if ![8, 16, 32, 64].contains(&width) {
-        return refused(1);
+/// The whole answer, refusals in 01's order.
+fn model(raw: i128, format: Format) -> Answer {
+    match format.refusal() {
+        Some(number) => Answer::refused(number),
+        None if raw <= 0 => Answer::refused(32),
+        None => Answer::done(exact(raw as u64, format.frac).into(), false),
     }
-    if frac > width {
-        return refused(2);
-    }
-    if raw <= 0 {
-        return refused(32);
-    }
-    done(exact(raw as u64, frac))
 }
 
-// S: the whole part by the language's own ilog10, as the crate has it, and below one S's frac_part on the bits at the top of
-// the word. The crate's own file that joins the two is not at hand.
+/// S: the whole part by the language's own ilog10, as the crate has it, and below one S's frac_part on the bits at the top of
+/// the word. The crate's own file that joins the two is not at hand.
 macro_rules! s_width {
     ($name:ident, $int:ident) => {
         fn $name(bits: $int, frac: u32) -> i32 {
@@ -96,87 +80,52 @@ fn s_side(raw: u64, width: u32, frac: u32) -> i32 {
 
 // ---- comparing
 
-#[derive(Default)]
-struct Tally {
-    passed: u64,
-    failed: u64,
+fn same(t: &mut Tally, what: &str, raw: i128, format: Format, wanted: Answer) {
+    t.same(ours(raw, format), wanted, || format!("{what}, raw {raw}, {format:?}"));
 }
 
-impl Tally {
-    fn same(&mut self, what: &str, raw: i128, width: u32, frac: u32, got: Signed, want: Signed) {
-        if got == want {
-            self.passed += 1;
-            return;
-        }
-        self.failed += 1;
-        if self.failed <= 20 {
-            println!("FAIL {what} raw {raw} W {width} F {frac}: {got:?}, not {want:?}");
-        }
+/// An unsigned raw, and the same number as a signed one where it is one: against the model, and against S where S has
+/// the number.
+fn number(t: &mut Tally, raw: u64, width: u32, frac: u32) {
+    let format = Format { signed: false, width, frac };
+    let wanted = model(raw.into(), format);
+    same(t, "the model", raw.into(), format, wanted);
+    if i64::try_from(raw).is_ok() {
+        same(t, "the model", raw.into(), Format { signed: true, ..format }, wanted);
     }
-
-    // An unsigned raw, and the same number as a signed one where it is one: against the model, and against S where S has
-    // the number.
-    fn raw(&mut self, raw: u64, width: u32, frac: u32) {
-        let want = model(raw as i128, width, frac);
-        self.same("unsigned", raw as i128, width, frac, ours_unsigned(raw, width, frac), want);
-        if let Ok(signed) = i64::try_from(raw) {
-            self.same("signed", raw as i128, width, frac, ours_signed(signed, width, frac), want);
-        }
-        if want.number == 0 && (width == 64 || raw >> width == 0) {
-            let s = done(s_side(raw, width, frac));
-            self.same("S", raw as i128, width, frac, ours_unsigned(raw, width, frac), s);
-        }
-    }
-
-    fn negative(&mut self, raw: i64, width: u32, frac: u32) {
-        let want = model(raw as i128, width, frac);
-        self.same("signed", raw as i128, width, frac, ours_signed(raw, width, frac), want);
+    if wanted.number == 0 && format.holds(raw.into()) {
+        same(t, "S", raw.into(), format, Answer::done(s_side(raw, width, frac).into(), false));
     }
 }
 
-// A seeded generator (xorshift64*): the same numbers in every run.
-struct Random(u64);
-
-impl Random {
-    fn next(&mut self) -> u64 {
-        self.0 ^= self.0 >> 12;
-        self.0 ^= self.0 << 25;
-        self.0 ^= self.0 >> 27;
-        self.0.wrapping_mul(0x2545_f491_4f6c_dd1d)
-    }
-
-    // A number of every size with the same chance.
-    fn sized(&mut self, width: u32) -> u64 {
-        let all = self.next() >> (64 - width);
-        all >> (self.next() % width as u64)
-    }
+fn negative(t: &mut Tally, raw: i64, width: u32, frac: u32) {
+    let format = Format { signed: true, width, frac };
+    same(t, "the model", raw.into(), format, model(raw.into(), format));
 }
 
-// every raw of W = 8 and 16, at every F
+/// Every raw of W = 8 and 16, at every F.
 fn narrow(t: &mut Tally) {
     for width in [8u32, 16] {
         for frac in 0..=width {
             for raw in 0..1u64 << width {
-                t.raw(raw, width, frac);
+                number(t, raw, width, frac);
             }
             for raw in 1..=1i64 << (width - 1) {
-                t.negative(-raw, width, frac);
+                negative(t, -raw, width, frac);
             }
         }
     }
 }
 
-// the neighbours of every power of ten, at every F, also where the format could not hold them; and the ends of a word
+/// The neighbours of every power of ten, at every F, also where the format could not hold them; and the ends of a word.
 fn near_powers(t: &mut Tally) {
-    for width in [8u32, 16, 32, 64] {
-        for frac in 0..=width {
-            (-20..=19).for_each(|k| near_power(t, k, width, frac));
-            for raw in [1, u64::MAX, u64::MAX - 1, i64::MAX as u64, 1 << 63] {
-                t.raw(raw, width, frac);
-            }
-            for raw in [-1, i64::MIN, i64::MIN + 1] {
-                t.negative(raw, width, frac);
-            }
+    for Format { width, frac, .. } in Format::all(false) {
+        (-20..=19).for_each(|k| near_power(t, k, width, frac));
+        for raw in [1, u64::MAX, u64::MAX - 1, i64::MAX as u64, 1 << 63] {
+            number(t, raw, width, frac);
+        }
+        for raw in [-1, i64::MIN, i64::MIN + 1] {
+            negative(t, raw, width, frac);
         }
     }
 }
@@ -190,32 +139,32 @@ fn near_power(t: &mut Tally, k: i32, width: u32, frac: u32) {
     for d in -2..=2i128 {
         let near = at.map(|a| a as i128 + d).filter(|&n| n >= 0);
         if let Some(raw) = near.and_then(|n| u64::try_from(n).ok()) {
-            t.raw(raw, width, frac);
+            number(t, raw, width, frac);
         }
     }
 }
 
-// random wide ones, at every F
+/// Random wide ones, at every F.
 fn at_random(t: &mut Tally) {
-    let mut random = Random(0x7461_6d71_6f72_6574);
+    let mut random = Random::new(1);
     for width in [32u32, 64] {
         for frac in 0..=width {
             for _ in 0..20_000 {
-                t.raw(random.sized(width), width, frac);
-                t.negative(-1 - (random.next() >> 1) as i64, width, frac);
+                number(t, random.sized(width), width, frac);
+                negative(t, -1 - (random.next() >> 1) as i64, width, frac);
             }
         }
     }
 }
 
-// formats that are none
+/// Formats that are none.
 fn no_formats(t: &mut Tally) {
     for width in (0..200).chain([u32::MAX, u32::MAX - 1, 1 << 31, 264, 272, 288, 320]) {
         for frac in (0..80).chain([u32::MAX, 1 << 31, 256, 264]) {
             for raw in [0, 1, 255, u64::MAX] {
-                t.raw(raw, width, frac);
+                number(t, raw, width, frac);
             }
-            t.negative(-1, width, frac);
+            negative(t, -1, width, frac);
         }
     }
 }
@@ -223,70 +172,38 @@ fn no_formats(t: &mut Tally) {
 // ---- timing: both sides in one run, each call not inlined, on the same raws
 
 #[inline(never)]
-fn s_call16<const F: u32>(raw: u16) -> i32 {
-    s_u16(raw, F)
+fn s_16<const F: u32>(raw: u64) -> i32 {
+    s_u16(raw as u16, F)
 }
 
 #[inline(never)]
-fn s_call32<const F: u32>(raw: u32) -> i32 {
-    s_u32(raw, F)
+fn s_32<const F: u32>(raw: u64) -> i32 {
+    s_u32(raw as u32, F)
 }
 
-const PASSES: u32 = 60;
+/// Width, fraction bits, and S with these as constants.
+const TIMED: [(u32, u32, fn(u64) -> i32); 6] = [
+    (16, 16, s_16::<16>),
+    (16, 15, s_16::<15>),
+    (16, 8, s_16::<8>),
+    (32, 32, s_32::<32>),
+    (32, 16, s_32::<16>),
+    (32, 0, s_32::<0>),
+];
 
-// Nanoseconds per call, the best of the passes.
-fn best(raws: &[u64], mut call: impl FnMut(u64) -> i64) -> f64 {
-    let start = Instant::now();
-    let mut sum = 0;
-    for &raw in raws {
-        sum += call(black_box(raw));
-    }
-    black_box(sum);
-    start.elapsed().as_nanos() as f64 / raws.len() as f64
-}
+const PASSES: usize = 60;
+const RAWS: usize = 50_000;
 
-fn time(name: &str, raws: &[u64], mut ours: impl FnMut(u64) -> i64, mut theirs: impl FnMut(u64) -> i64) {
-    let (mut a, mut b) = (f64::MAX, f64::MAX);
-    for _ in 0..PASSES {
-        a = a.min(best(raws, &mut ours));
-        b = b.min(best(raws, &mut theirs));
-    }
-    println!("time {name}: ours {a:.2} ns, S {b:.2} ns, ratio {:.2}", a / b);
-}
-
-fn timing() {
-    let mut random = Random(99);
-    let even16: Vec<u64> = (0..50_000).map(|_| (random.next() >> 48).max(1)).collect();
-    let even32: Vec<u64> = (0..50_000).map(|_| (random.next() >> 32).max(1)).collect();
-    let sized16: Vec<u64> = (0..50_000).map(|_| random.sized(16).max(1)).collect();
-    let sized32: Vec<u64> = (0..50_000).map(|_| random.sized(32).max(1)).collect();
-    for (kind, r16, r32) in [("every raw alike", &even16, &even32), ("every size alike", &sized16, &sized32)] {
-        time(
-            &format!("W 16 F 16, {kind}"),
-            r16,
-            |r| ours_unsigned(r, 16, 16).value,
-            |r| s_call16::<16>(r as u16) as i64,
+fn time(kind: &str, mut raw: impl FnMut(u32) -> u64) {
+    for (width, frac, of_s) in TIMED {
+        let raws: Vec<u64> = (0..RAWS).map(|_| raw(width).max(1)).collect();
+        let (ours, theirs) = in_turns(
+            PASSES,
+            || each(&raws, |raw| unsafe { tq_log10_unsigned(raw, width, frac).value }),
+            || each(&raws, of_s),
         );
-        time(
-            &format!("W 16 F 15, {kind}"),
-            r16,
-            |r| ours_unsigned(r, 16, 15).value,
-            |r| s_call16::<15>(r as u16) as i64,
-        );
-        time(&format!("W 16 F 8, {kind}"), r16, |r| ours_unsigned(r, 16, 8).value, |r| s_call16::<8>(r as u16) as i64);
-        time(
-            &format!("W 32 F 32, {kind}"),
-            r32,
-            |r| ours_unsigned(r, 32, 32).value,
-            |r| s_call32::<32>(r as u32) as i64,
-        );
-        time(
-            &format!("W 32 F 16, {kind}"),
-            r32,
-            |r| ours_unsigned(r, 32, 16).value,
-            |r| s_call32::<16>(r as u32) as i64,
-        );
-        time(&format!("W 32 F 0, {kind}"), r32, |r| ours_unsigned(r, 32, 0).value, |r| s_call32::<0>(r as u32) as i64);
+        let (ours, theirs) = (ours.fastest(), theirs.fastest());
+        println!("time W {width} F {frac}, {kind}: ours {ours:.2} ns, S {theirs:.2} ns, ratio {:.2}", ours / theirs);
     }
 }
 
@@ -296,9 +213,8 @@ fn main() {
     near_powers(&mut t);
     at_random(&mut t);
     no_formats(&mut t);
-    timing();
-    println!("{} passed, {} failed", t.passed, t.failed);
-    if t.failed > 0 {
-        std::process::exit(1);
-    }
+    let mut random = Random::new(99);
+    time("every raw alike", |width| random.next() >> (64 - width));
+    time("every size alike", |width| random.sized(width));
+    t.close()
 }

@@ -1,6 +1,6 @@
 //! Fitting files at random: good ones, damaged ones, hostile ones.
 
-use crate::common::Random;
+use crate::common::random::Random;
 use crate::model::{LONGEST_FILE, MOST, Places};
 
 /// 5^16: the half steps of I1F15 are its odd multiples, as sixteen decimal digits.

@@ -3,30 +3,17 @@
 //!
 //!     fitting [FILES] [SEED]
 
-#[path = "../common.rs"]
+#[path = "../common/mod.rs"]
 mod common;
 mod files;
 mod literal;
 mod model;
 
-use common::{File, Random, Tally};
+use common::capi::{File, tq_fitting};
+use common::random::Random;
+use common::tally::Tally;
 use model::{Buffers, Places};
 use std::collections::BTreeMap;
-
-unsafe extern "C" {
-    fn tq_fitting(
-        file: *const u8,
-        len: usize,
-        lines: *mut u32,
-        lines_len: usize,
-        raws: *mut i16,
-        raws_len: usize,
-        answers: *mut u32,
-        answers_len: usize,
-        taps: *mut i16,
-        taps_len: usize,
-    ) -> File;
-}
 
 /// Sentinels on either side of a lent buffer.
 const MARGIN: usize = 2;
@@ -156,7 +143,7 @@ fn limits(t: &mut Tally, seen: &mut Seen, random: &mut Random) {
 fn main() {
     let mut arguments = std::env::args().skip(1).map(|a| a.parse::<u64>().expect("FILES and SEED are numbers"));
     let files = arguments.next().unwrap_or(300_000);
-    let mut random = Random(arguments.next().unwrap_or(1));
+    let mut random = Random::new(arguments.next().unwrap_or(1));
     let (mut t, mut seen) = (Tally::default(), Seen::default());
     limits(&mut t, &mut seen, &mut random);
     for _ in 0..files {

@@ -1,6 +1,6 @@
 //! Document 01, module 9: what a fitting file with lent buffers of given lengths must answer, and what the buffers then hold.
 
-use crate::common::File;
+use crate::common::capi::File;
 use crate::literal;
 
 pub const LONGEST_FILE: usize = 16384;

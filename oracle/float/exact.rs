@@ -1,7 +1,7 @@
 //! The same from IEEE 754's words, over integers: a second judge, that shares nothing with the machine's floats.
 
-use crate::common::Answer;
-use crate::manner::{Exact, Format};
+use crate::common::exact::Exact;
+use crate::common::format::{Answer, Format, SATURATING};
 
 /// Bits of the stored significand, and of the exponent.
 #[derive(Clone, Copy, PartialEq)]
@@ -43,12 +43,12 @@ pub fn from(pattern: u64, kind: Kind, f: Format, manner: u32) -> Answer {
     let fraction = pattern & ((1 << kind.stored) - 1);
     let field = pattern >> kind.stored & kind.top();
     let neg = pattern >> (kind.stored + kind.exponent) & 1 == 1;
-    if f.fault() != 0 {
-        return Answer::refused(f.fault());
+    if let Some(number) = f.refusal() {
+        return Answer::refused(number);
     }
     if field == kind.top() {
         return match (fraction, manner) {
-            (0, 1) => Answer::done(if neg { f.least() } else { f.most() }, false),
+            (0, SATURATING) => Answer::done(if neg { f.lowest() } else { f.highest() }, false),
             _ => Answer::refused(30),
         };
     }
@@ -59,8 +59,8 @@ pub fn from(pattern: u64, kind: Kind, f: Format, manner: u32) -> Answer {
 
 /// The pattern nearest to raw / 2^F, ties to even. No raw is so small or so great that its pattern would be subnormal or infinite.
 pub fn to(raw: i128, kind: Kind, f: Format) -> Answer {
-    if f.fault() != 0 {
-        return Answer::refused(f.fault());
+    if let Some(number) = f.refusal() {
+        return Answer::refused(number);
     }
     let size = raw.unsigned_abs() as u64;
     if size == 0 {

@@ -1,7 +1,7 @@
 //! What the machine's own arithmetic makes of patterns. Scaling by a power of two is exact here, and so are the casts of what is small enough.
 
-use crate::common::Answer;
-use crate::manner::{Exact, Format};
+use crate::common::exact::Exact;
+use crate::common::format::{Answer, Format, SATURATING};
 
 fn power(frac: u32) -> f64 {
     (1u128 << frac) as f64
@@ -9,11 +9,13 @@ fn power(frac: u32) -> f64 {
 
 /// From an f64, or from an f32 widened to one, which loses nothing.
 pub fn from(x: f64, f: Format, manner: u32) -> Answer {
-    match f.fault() {
-        0 if x.is_infinite() && manner == 1 => Answer::done(if x < 0.0 { f.least() } else { f.most() }, false),
-        0 if !x.is_finite() => Answer::refused(30),
-        0 => whole((x * power(f.frac)).round_ties_even()).settled(f, manner),
-        number => Answer::refused(number),
+    match f.refusal() {
+        Some(number) => Answer::refused(number),
+        None if x.is_infinite() && manner == SATURATING => {
+            Answer::done(if x < 0.0 { f.lowest() } else { f.highest() }, false)
+        }
+        None if !x.is_finite() => Answer::refused(30),
+        None => whole((x * power(f.frac)).round_ties_even()).settled(f, manner),
     }
 }
 
@@ -24,15 +26,15 @@ fn whole(y: f64) -> Exact {
 }
 
 pub fn to_f32(raw: i128, f: Format) -> Answer {
-    match f.fault() {
-        0 => Answer::done(i128::from((raw as f32 / power(f.frac) as f32).to_bits()), false),
-        number => Answer::refused(number),
+    match f.refusal() {
+        Some(number) => Answer::refused(number),
+        None => Answer::done(i128::from((raw as f32 / power(f.frac) as f32).to_bits()), false),
     }
 }
 
 pub fn to_f64(raw: i128, f: Format) -> Answer {
-    match f.fault() {
-        0 => Answer::done(i128::from((raw as f64 / power(f.frac)).to_bits()), false),
-        number => Answer::refused(number),
+    match f.refusal() {
+        Some(number) => Answer::refused(number),
+        None => Answer::done(i128::from((raw as f64 / power(f.frac)).to_bits()), false),
     }
 }

@@ -5,47 +5,29 @@
 //!
 //! A sweep takes every f32 with one exponent into a format; there are 13 of them, and the first three are done if no number is given.
 
-#[path = "../common.rs"]
+#[path = "../common/mod.rs"]
 mod common;
 mod exact;
 mod machine;
-#[path = "../manner.rs"]
-mod manner;
 
-use common::{Answer, Random, Signed, Tally, Unsigned};
+use common::capi::*;
+use common::format::{Answer, Format, MANNERS, OVERFLOWING};
+use common::random::Random;
+use common::tally::Tally;
+use common::telling::{ANY_MANNER, edges, format, no_formats, operand};
 use exact::{F32, F64, Kind};
-use manner::{Format, MANNERS, NO_FORMATS, WIDTHS, edges, operand};
 
-unsafe extern "C" {
-    fn tq_from_f32_signed(pattern: u32, width: u32, frac: u32, manner: u32) -> Signed;
-    fn tq_from_f32_unsigned(pattern: u32, width: u32, frac: u32, manner: u32) -> Unsigned;
-    fn tq_from_f64_signed(pattern: u64, width: u32, frac: u32, manner: u32) -> Signed;
-    fn tq_from_f64_unsigned(pattern: u64, width: u32, frac: u32, manner: u32) -> Unsigned;
-    fn tq_to_f32_signed(raw: i64, width: u32, frac: u32) -> Unsigned;
-    fn tq_to_f32_unsigned(raw: u64, width: u32, frac: u32) -> Unsigned;
-    fn tq_to_f64_signed(raw: i64, width: u32, frac: u32) -> Unsigned;
-    fn tq_to_f64_unsigned(raw: u64, width: u32, frac: u32) -> Unsigned;
-}
-
-fn found_from(pattern: u64, kind: Kind, f: Format, manner: u32) -> Answer {
-    unsafe {
-        match (kind == F32, f.signed) {
-            (true, true) => tq_from_f32_signed(pattern as u32, f.width, f.frac, manner).into(),
-            (true, false) => tq_from_f32_unsigned(pattern as u32, f.width, f.frac, manner).into(),
-            (false, true) => tq_from_f64_signed(pattern, f.width, f.frac, manner).into(),
-            (false, false) => tq_from_f64_unsigned(pattern, f.width, f.frac, manner).into(),
-        }
+fn found_from(pattern: u64, kind: Kind, Format { signed, width, frac }: Format, manner: u32) -> Answer {
+    match kind == F32 {
+        true => answer!(signed, tq_from_f32_signed | tq_from_f32_unsigned, [], pattern as u32, width, frac, manner),
+        false => answer!(signed, tq_from_f64_signed | tq_from_f64_unsigned, [], pattern, width, frac, manner),
     }
 }
 
-fn found_to(raw: i128, kind: Kind, f: Format) -> Answer {
-    unsafe {
-        match (kind == F32, f.signed) {
-            (true, true) => tq_to_f32_signed(raw as i64, f.width, f.frac).into(),
-            (true, false) => tq_to_f32_unsigned(raw as u64, f.width, f.frac).into(),
-            (false, true) => tq_to_f64_signed(raw as i64, f.width, f.frac).into(),
-            (false, false) => tq_to_f64_unsigned(raw as u64, f.width, f.frac).into(),
-        }
+fn found_to(raw: i128, kind: Kind, Format { signed, width, frac }: Format) -> Answer {
+    match kind == F32 {
+        true => answer!(signed, tq_to_f32_signed | tq_to_f32_unsigned, [raw], width, frac),
+        false => answer!(signed, tq_to_f64_signed | tq_to_f64_unsigned, [raw], width, frac),
     }
 }
 
@@ -98,7 +80,7 @@ fn about(x: f64, kind: Kind) -> impl Iterator<Item = u64> {
 /// Numbers at and about the ends, zero and the middle of a format, and the ties there.
 fn telling(f: Format, kind: Kind) -> Vec<u64> {
     let mut all = special(kind);
-    let ends = [f.least() - 1, f.least(), f.least() + 1, f.most() - 1, f.most(), f.most() + 1];
+    let ends = [f.lowest() - 1, f.lowest(), f.lowest() + 1, f.highest() - 1, f.highest(), f.highest() + 1];
     for raw in edges(true, f.width).into_iter().chain(ends) {
         for quarter in [0.0, 0.25, 0.5, 0.75] {
             all.extend(about((raw as f64 + quarter) / (1u128 << f.frac) as f64, kind));
@@ -108,18 +90,17 @@ fn telling(f: Format, kind: Kind) -> Vec<u64> {
 }
 
 fn directed(t: &mut Tally, signed: bool) {
-    let bad = NO_FORMATS.into_iter().map(|(width, frac)| Format { signed, width, frac });
     for kind in [F32, F64] {
         for f in Format::all(signed) {
             for pattern in telling(f, kind) {
-                for manner in 0..4 {
+                for manner in MANNERS {
                     from(t, pattern, kind, f, manner);
                 }
             }
         }
-        for f in bad.clone().chain([Format { signed, width: 16, frac: 15 }]) {
+        for f in no_formats(signed).chain([Format { signed, width: 16, frac: 15 }]) {
             for pattern in special(kind) {
-                for manner in MANNERS {
+                for manner in ANY_MANNER {
                     from(t, pattern, kind, f, manner);
                 }
             }
@@ -135,7 +116,7 @@ fn sweep(t: &mut Tally, f: Format, e: i64) {
     let field = ((e + 127) as u64) << F32.stored;
     for low in 0..1u64 << F32.stored {
         for sign in [0, 1 << 31] {
-            from(t, sign | field | low, F32, f, 3);
+            from(t, sign | field | low, F32, f, OVERFLOWING);
             if low % 16 == 0 {
                 (0..3).for_each(|manner| from(t, sign | field | low, F32, f, manner));
             }
@@ -170,11 +151,10 @@ fn pattern(random: &mut Random, kind: Kind, f: Format) -> u64 {
 
 fn at_random(t: &mut Tally, signed: bool, random: &mut Random) {
     for _ in 0..2_000_000 {
-        let width = random.pick(&WIDTHS);
-        let f = Format { signed, width, frac: random.below(width as usize + 1) as u32 };
+        let f = format(random, signed);
         let kind = random.pick(&[F32, F64]);
         let some = pattern(random, kind, f);
-        from(t, some, kind, f, random.pick(&MANNERS));
+        from(t, some, kind, f, random.pick(&ANY_MANNER));
         to(t, operand(random, signed), kind, f);
     }
 }
@@ -198,7 +178,7 @@ fn raws(t: &mut Tally, signed: bool) {
     for f in Format::all(signed) {
         for kind in [F32, F64] {
             if f.width <= 16 {
-                (f.least()..=f.most()).for_each(|raw| to(t, raw, kind, f));
+                (f.lowest()..=f.highest()).for_each(|raw| to(t, raw, kind, f));
             }
             for raw in ties(signed, kind).into_iter().chain(edges(signed, 64)).chain(edges(signed, f.width)) {
                 to(t, raw, kind, f);
@@ -210,7 +190,7 @@ fn raws(t: &mut Tally, signed: bool) {
 fn main() {
     let count = std::env::args().nth(1).map_or(3, |a| a.parse().expect("SWEEPS is a number"));
     let mut t = Tally::default();
-    let mut random = Random(1);
+    let mut random = Random::new(1);
     for signed in [true, false] {
         directed(&mut t, signed);
         raws(&mut t, signed);

@@ -1,6 +1,8 @@
 //! One call with its surroundings: lend, call, and see that nothing is written that must not be.
 
-use crate::common::{Random, Tally};
+use crate::common::format::{Format, OVERFLOWING};
+use crate::common::random::Random;
+use crate::common::tally::Tally;
 use crate::pages::{Region, Shelf, Side};
 use crate::pick::{self, Pools};
 use crate::table::{Args, Function, Outcome, Shape};
@@ -157,41 +159,33 @@ impl Bench {
     }
 }
 
-/// The refusal of a format that is none, or 0. A conversion has two.
-fn fault(f: &Function, x: &Args) -> u32 {
-    let formats = match f.shape {
-        Shape::Filter | Shape::Headroom | Shape::Fitting => return 0,
-        Shape::Convert => [(x.width, x.frac), (x.to_width, x.to_frac)],
-        _ => [(x.width, x.frac); 2],
-    };
-    match formats {
-        _ if formats.iter().any(|(width, _)| ![8, 16, 32, 64].contains(width)) => 1,
-        _ if formats.iter().any(|(width, frac)| frac > width) => 2,
-        _ => 0,
-    }
+/// The formats of a call: that of the raws, and that of the answer, which is another one only where a raw is converted.
+fn formats(f: &Function, x: &Args) -> [Format; 2] {
+    let format = |width, frac| Format { signed: f.name.ends_with("_signed"), width, frac };
+    let of_raws = format(x.width, x.frac);
+    [of_raws, if f.shape == Shape::Convert { format(x.to_width, x.to_frac) } else { of_raws }]
 }
 
-/// Whether a raw is one of the format.
-fn in_range(f: &Function, x: &Args, value: i128) -> bool {
-    let width = if f.shape == Shape::Convert { x.to_width } else { x.width };
-    match f.name.ends_with("_signed") {
-        true => (-(1 << (width - 1))..1 << (width - 1)).contains(&value),
-        false => (0..1 << width).contains(&value),
-    }
+/// The refusal of a format that is none.
+fn fault(f: &Function, x: &Args) -> Option<u32> {
+    let [one, other] = formats(f, x);
+    let has_format = !matches!(f.shape, Shape::Filter | Shape::Headroom | Shape::Fitting);
+    Format::refusal_of_both(one, other).filter(|_| has_format)
 }
 
 fn wrong_answer(f: &Function, x: &Args, r: &Outcome) -> Option<&'static str> {
     let raw = matches!(f.shape, Shape::Raw | Shape::Convert | Shape::Text | Shape::BytesIn);
+    let fault = fault(f, x);
     match r.number {
-        number if fault(f, x) != 0 && number != fault(f, x) => Some("a format that is none must be refused first"),
-        1 | 2 if fault(f, x) == 0 => Some("refused as no format"),
+        number if fault.is_some_and(|fault| fault != number) => Some("a format that is none must be refused first"),
+        1 | 2 if fault.is_none() => Some("refused as no format"),
         3.. if !f.refusals.contains(&r.number) => Some("a refusal that it has not"),
         _ if r.flag > 1 => Some("a flag that is neither 0 nor 1"),
-        0 if r.flag == 1 && (x.manner != 3 || !raw) => Some("a flag outside the overflowing manner"),
+        0 if r.flag == 1 && (x.manner != OVERFLOWING || !raw) => Some("a flag outside the overflowing manner"),
         1.. if r.value != 0 || r.flag != 0 => Some("a refusal with a value or a flag"),
         42 if r.line == 0 || r.inner == 0 => Some("42 without its line or its inner answer"),
         0..=41 if r.line != 0 || r.inner != 0 => Some("a line or an inner answer without 42"),
-        0 if raw && !in_range(f, x, r.value) => Some("a raw outside the format"),
+        0 if raw && !formats(f, x)[1].holds(r.value) => Some("a raw outside the format"),
         _ => None,
     }
 }

@@ -7,18 +7,16 @@
 //! value 0 and flag 0; a done one has written no more than its answer says; the answer is one that the function can give; and it is the same
 //! wherever the buffers lie. Inputs are in pages that can only be read. Buffers of no elements are null, dangling, or against a forbidden page.
 
-// Here a pointer is to the elements of a buffer; capi.rs has the state as one array.
-#![allow(clashing_extern_declarations)]
-
 mod check;
-#[path = "../common.rs"]
+#[path = "../common/mod.rs"]
 mod common;
 mod pages;
 mod pick;
 mod table;
 
 use check::{ARGS, Bench, CALLS, NAME};
-use common::{Random, Tally};
+use common::random::Random;
+use common::tally::Tally;
 use std::sync::atomic::Ordering::Relaxed;
 use table::Function;
 
@@ -33,7 +31,7 @@ extern "C" fn stopped(number: i32) {
     if !name.is_null() && !args.is_null() {
         println!("failed: {} did not come back (signal {number}) from {:?}", unsafe { *name }, unsafe { *args });
     }
-    println!("{} passed, 1 failed", CALLS.load(Relaxed));
+    println!("{}", Tally { passed: CALLS.load(Relaxed), failed: 1 });
     unsafe { _exit(1) }
 }
 
@@ -51,7 +49,7 @@ fn header(t: &mut Tally, functions: &[Function]) {
 fn main() {
     let mut arguments = std::env::args().skip(1).map(|a| a.parse::<u64>().expect("CALLS and SEED are numbers"));
     let calls = arguments.next().unwrap_or(1_000_000);
-    let mut random = Random(arguments.next().unwrap_or(1));
+    let mut random = Random::new(arguments.next().unwrap_or(1));
     let mut t = Tally::default();
     let mut bench = Bench::new(&mut random);
     let functions = table::functions();

@@ -1,6 +1,7 @@
 //! Arguments at random: mostly ones that a function accepts, then lengths at every limit, formats and manners that are none, damaged texts.
 
-use crate::common::Random;
+use crate::common::format::WIDTHS;
+use crate::common::random::Random;
 use crate::table::{Args, Shape};
 
 /// The lengths at which some function changes its answer, and their neighbours.
@@ -47,7 +48,7 @@ impl Pools {
 fn width(random: &mut Random) -> u32 {
     match random.below(16) {
         0 => random.pick(&[0, 1, 7, 9, 24, 63, 65, 128, 256, 0x108, 0x1_0010, 0x8000_0040, 1 << 31, u32::MAX]),
-        _ => random.pick(&[8, 16, 32, 64]),
+        _ => random.pick(&WIDTHS),
     }
 }
 

@@ -1,9 +1,7 @@
-//! Every function of include/tamqoret.h and of the C interface's page, with its declaration and the answers it may give. Groups that an archive has
+//! Every function of include/tamqoret.h and of the C interface's page, with its arguments and the answers it may give. Groups that an archive has
 //! not yet are left out with their `--cfg`: fitting, convert, float, further.
 
-#![allow(dead_code)]
-
-use crate::common::{File, Signed, Unsigned};
+use crate::common::capi::{self, File, Signed, Unsigned};
 use std::ptr;
 
 /// What a function takes and what its value is.
@@ -118,18 +116,17 @@ pub struct Function {
     pub call: fn(&Args) -> Outcome,
 }
 
-/// `group! { name: Shape [refusals] function(argument: type, ..) -> answer; .. }`: the functions of a group.
+/// `group! { name: Shape [refusals] function(argument, ..); .. }`: the functions of a group, and which of `Args` each takes.
 macro_rules! group {
-    ($group:ident: $($shape:ident $refusals:tt $name:ident($($arg:ident: $type:ty),*) -> $answer:ty;)*) => {
+    ($group:ident: $($shape:ident $refusals:tt $name:ident($($arg:ident),*);)*) => {
         pub mod $group {
             use super::*;
-            unsafe extern "C" { $(fn $name($($arg: $type),*) -> $answer;)* }
             pub fn functions() -> Vec<Function> {
                 vec![$(Function {
                     name: stringify!($name),
                     shape: Shape::$shape,
                     refusals: &$refusals,
-                    call: |x| unsafe { $name($(x.$arg as $type),*).into() },
+                    call: |x| unsafe { capi::$name($(x.$arg as _),*).into() },
                 }),*]
             }
         }
@@ -137,103 +134,99 @@ macro_rules! group {
 }
 
 group! { base:
-    Raw [10] tq_settle_signed(neg: u32, a: u64, b: u64, width: u32, frac: u32, manner: u32) -> Signed;
-    Raw [10] tq_settle_unsigned(neg: u32, a: u64, b: u64, width: u32, frac: u32, manner: u32) -> Unsigned;
-    Text [3, 4, 10, 11, 12, 13, 15, 16, 17, 18, 19] tq_read_signed(in0: *const u8, in0_len: usize, width: u32, frac: u32, radix: u32,
-        manner: u32) -> Signed;
-    Text [3, 4, 10, 11, 12, 13, 15, 16, 17, 18, 19] tq_read_unsigned(in0: *const u8, in0_len: usize, width: u32, frac: u32, radix: u32,
-        manner: u32) -> Unsigned;
-    Text [4, 10, 11, 12, 13, 14, 15, 16, 17, 18, 19] tq_literal_signed(in0: *const u8, in0_len: usize, width: u32, frac: u32) -> Signed;
-    Text [4, 10, 11, 12, 13, 14, 15, 16, 17, 18, 19] tq_literal_unsigned(in0: *const u8, in0_len: usize, width: u32, frac: u32) -> Unsigned;
-    BytesOut [5] tq_write_signed(a: i64, width: u32, frac: u32, out0: *mut u8, out0_len: usize) -> Unsigned;
-    BytesOut [5] tq_write_unsigned(a: u64, width: u32, frac: u32, out0: *mut u8, out0_len: usize) -> Unsigned;
-    Number [32] tq_log10_signed(a: i64, width: u32, frac: u32) -> Signed;
-    Number [32] tq_log10_unsigned(a: u64, width: u32, frac: u32) -> Signed;
-    Raw [10] tq_add_signed(a: i64, b: i64, width: u32, frac: u32, manner: u32) -> Signed;
-    Raw [10] tq_add_unsigned(a: u64, b: u64, width: u32, frac: u32, manner: u32) -> Unsigned;
-    Raw [10] tq_sub_signed(a: i64, b: i64, width: u32, frac: u32, manner: u32) -> Signed;
-    Raw [10] tq_sub_unsigned(a: u64, b: u64, width: u32, frac: u32, manner: u32) -> Unsigned;
-    Raw [10] tq_mul_signed(a: i64, b: i64, width: u32, frac: u32, manner: u32) -> Signed;
-    Raw [10] tq_mul_unsigned(a: u64, b: u64, width: u32, frac: u32, manner: u32) -> Unsigned;
-    Raw [10, 31] tq_div_signed(a: i64, b: i64, width: u32, frac: u32, manner: u32) -> Signed;
-    Raw [10, 31] tq_div_unsigned(a: u64, b: u64, width: u32, frac: u32, manner: u32) -> Unsigned;
-    Raw [10, 31] tq_rem_signed(a: i64, b: i64, width: u32, frac: u32, manner: u32) -> Signed;
-    Raw [10, 31] tq_rem_unsigned(a: u64, b: u64, width: u32, frac: u32, manner: u32) -> Unsigned;
-    Raw [10] tq_neg_signed(a: i64, width: u32, frac: u32, manner: u32) -> Signed;
-    Raw [10] tq_neg_unsigned(a: u64, width: u32, frac: u32, manner: u32) -> Unsigned;
-    Raw [10] tq_shl_signed(a: i64, count: u32, width: u32, frac: u32, manner: u32) -> Signed;
-    Raw [10] tq_shl_unsigned(a: u64, count: u32, width: u32, frac: u32, manner: u32) -> Unsigned;
-    Raw [10] tq_shr_signed(a: i64, count: u32, width: u32, frac: u32, manner: u32) -> Signed;
-    Raw [10] tq_shr_unsigned(a: u64, count: u32, width: u32, frac: u32, manner: u32) -> Unsigned;
-    Raw [] tq_swap_bytes_signed(a: i64, width: u32, frac: u32) -> Signed;
-    Raw [] tq_swap_bytes_unsigned(a: u64, width: u32, frac: u32) -> Unsigned;
-    BytesOut [5] tq_to_be_bytes_signed(a: i64, width: u32, frac: u32, out0: *mut u8, out0_len: usize) -> Unsigned;
-    BytesOut [5] tq_to_be_bytes_unsigned(a: u64, width: u32, frac: u32, out0: *mut u8, out0_len: usize) -> Unsigned;
-    BytesOut [5] tq_to_le_bytes_signed(a: i64, width: u32, frac: u32, out0: *mut u8, out0_len: usize) -> Unsigned;
-    BytesOut [5] tq_to_le_bytes_unsigned(a: u64, width: u32, frac: u32, out0: *mut u8, out0_len: usize) -> Unsigned;
-    BytesIn [5] tq_from_be_bytes_signed(in0: *const u8, in0_len: usize, width: u32, frac: u32) -> Signed;
-    BytesIn [5] tq_from_be_bytes_unsigned(in0: *const u8, in0_len: usize, width: u32, frac: u32) -> Unsigned;
-    BytesIn [5] tq_from_le_bytes_signed(in0: *const u8, in0_len: usize, width: u32, frac: u32) -> Signed;
-    BytesIn [5] tq_from_le_bytes_unsigned(in0: *const u8, in0_len: usize, width: u32, frac: u32) -> Unsigned;
-    Filter [5, 40] tq_filter(in0: *const i16, in0_len: usize, out0: *mut i16, in1: *const i16, in1_len: usize, out1: *mut i16, out1_len: usize,
-        out2: *mut u8, out2_len: usize) -> Unsigned;
-    Headroom [5, 40] tq_headroom(in0: *const i16, in0_len: usize, out0: *mut i16, out0_len: usize) -> Unsigned;
+    Raw [10] tq_settle_signed(neg, a, b, width, frac, manner);
+    Raw [10] tq_settle_unsigned(neg, a, b, width, frac, manner);
+    Text [3, 4, 10, 11, 12, 13, 15, 16, 17, 18, 19] tq_read_signed(in0, in0_len, width, frac, radix, manner);
+    Text [3, 4, 10, 11, 12, 13, 15, 16, 17, 18, 19] tq_read_unsigned(in0, in0_len, width, frac, radix, manner);
+    Text [4, 10, 11, 12, 13, 14, 15, 16, 17, 18, 19] tq_literal_signed(in0, in0_len, width, frac);
+    Text [4, 10, 11, 12, 13, 14, 15, 16, 17, 18, 19] tq_literal_unsigned(in0, in0_len, width, frac);
+    BytesOut [5] tq_write_signed(a, width, frac, out0, out0_len);
+    BytesOut [5] tq_write_unsigned(a, width, frac, out0, out0_len);
+    Number [32] tq_log10_signed(a, width, frac);
+    Number [32] tq_log10_unsigned(a, width, frac);
+    Raw [10] tq_add_signed(a, b, width, frac, manner);
+    Raw [10] tq_add_unsigned(a, b, width, frac, manner);
+    Raw [10] tq_sub_signed(a, b, width, frac, manner);
+    Raw [10] tq_sub_unsigned(a, b, width, frac, manner);
+    Raw [10] tq_mul_signed(a, b, width, frac, manner);
+    Raw [10] tq_mul_unsigned(a, b, width, frac, manner);
+    Raw [10, 31] tq_div_signed(a, b, width, frac, manner);
+    Raw [10, 31] tq_div_unsigned(a, b, width, frac, manner);
+    Raw [10, 31] tq_rem_signed(a, b, width, frac, manner);
+    Raw [10, 31] tq_rem_unsigned(a, b, width, frac, manner);
+    Raw [10] tq_neg_signed(a, width, frac, manner);
+    Raw [10] tq_neg_unsigned(a, width, frac, manner);
+    Raw [10] tq_shl_signed(a, count, width, frac, manner);
+    Raw [10] tq_shl_unsigned(a, count, width, frac, manner);
+    Raw [10] tq_shr_signed(a, count, width, frac, manner);
+    Raw [10] tq_shr_unsigned(a, count, width, frac, manner);
+    Raw [] tq_swap_bytes_signed(a, width, frac);
+    Raw [] tq_swap_bytes_unsigned(a, width, frac);
+    BytesOut [5] tq_to_be_bytes_signed(a, width, frac, out0, out0_len);
+    BytesOut [5] tq_to_be_bytes_unsigned(a, width, frac, out0, out0_len);
+    BytesOut [5] tq_to_le_bytes_signed(a, width, frac, out0, out0_len);
+    BytesOut [5] tq_to_le_bytes_unsigned(a, width, frac, out0, out0_len);
+    BytesIn [5] tq_from_be_bytes_signed(in0, in0_len, width, frac);
+    BytesIn [5] tq_from_be_bytes_unsigned(in0, in0_len, width, frac);
+    BytesIn [5] tq_from_le_bytes_signed(in0, in0_len, width, frac);
+    BytesIn [5] tq_from_le_bytes_unsigned(in0, in0_len, width, frac);
+    Filter [5, 40] tq_filter(in0, in0_len, out0, in1, in1_len, out1, out1_len, out2, out2_len);
+    Headroom [5, 40] tq_headroom(in0, in0_len, out0, out0_len);
 }
 
 #[cfg(fitting)]
 group! { fitting:
-    Fitting [4, 5, 40, 41, 42] tq_fitting(in0: *const u8, in0_len: usize, out0: *mut u32, out0_len: usize, out1: *mut i16, out1_len: usize,
-        out2: *mut u32, out2_len: usize, out3: *mut i16, out3_len: usize) -> File;
+    Fitting [4, 5, 40, 41, 42] tq_fitting(in0, in0_len, out0, out0_len, out1, out1_len, out2, out2_len, out3, out3_len);
 }
 
 #[cfg(convert)]
 group! { convert:
-    Convert [10] tq_convert_signed_to_signed(a: i64, width: u32, frac: u32, to_width: u32, to_frac: u32, manner: u32) -> Signed;
-    Convert [10] tq_convert_signed_to_unsigned(a: i64, width: u32, frac: u32, to_width: u32, to_frac: u32, manner: u32) -> Unsigned;
-    Convert [10] tq_convert_unsigned_to_signed(a: u64, width: u32, frac: u32, to_width: u32, to_frac: u32, manner: u32) -> Signed;
-    Convert [10] tq_convert_unsigned_to_unsigned(a: u64, width: u32, frac: u32, to_width: u32, to_frac: u32, manner: u32) -> Unsigned;
+    Convert [10] tq_convert_signed_to_signed(a, width, frac, to_width, to_frac, manner);
+    Convert [10] tq_convert_signed_to_unsigned(a, width, frac, to_width, to_frac, manner);
+    Convert [10] tq_convert_unsigned_to_signed(a, width, frac, to_width, to_frac, manner);
+    Convert [10] tq_convert_unsigned_to_unsigned(a, width, frac, to_width, to_frac, manner);
 }
 
 #[cfg(float)]
 group! { float:
-    Raw [10, 30] tq_from_f32_signed(a: u32, width: u32, frac: u32, manner: u32) -> Signed;
-    Raw [10, 30] tq_from_f32_unsigned(a: u32, width: u32, frac: u32, manner: u32) -> Unsigned;
-    Raw [10, 30] tq_from_f64_signed(a: u64, width: u32, frac: u32, manner: u32) -> Signed;
-    Raw [10, 30] tq_from_f64_unsigned(a: u64, width: u32, frac: u32, manner: u32) -> Unsigned;
-    Number [] tq_to_f32_signed(a: i64, width: u32, frac: u32) -> Unsigned;
-    Number [] tq_to_f32_unsigned(a: u64, width: u32, frac: u32) -> Unsigned;
-    Number [] tq_to_f64_signed(a: i64, width: u32, frac: u32) -> Unsigned;
-    Number [] tq_to_f64_unsigned(a: u64, width: u32, frac: u32) -> Unsigned;
+    Raw [10, 30] tq_from_f32_signed(a, width, frac, manner);
+    Raw [10, 30] tq_from_f32_unsigned(a, width, frac, manner);
+    Raw [10, 30] tq_from_f64_signed(a, width, frac, manner);
+    Raw [10, 30] tq_from_f64_unsigned(a, width, frac, manner);
+    Number [] tq_to_f32_signed(a, width, frac);
+    Number [] tq_to_f32_unsigned(a, width, frac);
+    Number [] tq_to_f64_signed(a, width, frac);
+    Number [] tq_to_f64_unsigned(a, width, frac);
 }
 
 #[cfg(further)]
 group! { further:
-    Raw [10] tq_abs_signed(a: i64, width: u32, frac: u32, manner: u32) -> Signed;
-    Raw [10] tq_abs_unsigned(a: u64, width: u32, frac: u32, manner: u32) -> Unsigned;
-    Raw [10] tq_signum_signed(a: i64, width: u32, frac: u32, manner: u32) -> Signed;
-    Raw [10] tq_signum_unsigned(a: u64, width: u32, frac: u32, manner: u32) -> Unsigned;
-    Raw [10] tq_round_signed(a: i64, width: u32, frac: u32, manner: u32) -> Signed;
-    Raw [10] tq_round_unsigned(a: u64, width: u32, frac: u32, manner: u32) -> Unsigned;
-    Raw [10] tq_ceil_signed(a: i64, width: u32, frac: u32, manner: u32) -> Signed;
-    Raw [10] tq_ceil_unsigned(a: u64, width: u32, frac: u32, manner: u32) -> Unsigned;
-    Raw [10] tq_floor_signed(a: i64, width: u32, frac: u32, manner: u32) -> Signed;
-    Raw [10] tq_floor_unsigned(a: u64, width: u32, frac: u32, manner: u32) -> Unsigned;
-    Raw [10] tq_int_signed(a: i64, width: u32, frac: u32, manner: u32) -> Signed;
-    Raw [10] tq_int_unsigned(a: u64, width: u32, frac: u32, manner: u32) -> Unsigned;
-    Raw [10] tq_frac_signed(a: i64, width: u32, frac: u32, manner: u32) -> Signed;
-    Raw [10] tq_frac_unsigned(a: u64, width: u32, frac: u32, manner: u32) -> Unsigned;
-    Raw [10] tq_round_ties_even_signed(a: i64, width: u32, frac: u32, manner: u32) -> Signed;
-    Raw [10] tq_round_ties_even_unsigned(a: u64, width: u32, frac: u32, manner: u32) -> Unsigned;
-    Raw [10, 31] tq_rem_euclid_signed(a: i64, b: i64, width: u32, frac: u32, manner: u32) -> Signed;
-    Raw [10, 31] tq_rem_euclid_unsigned(a: u64, b: u64, width: u32, frac: u32, manner: u32) -> Unsigned;
-    Raw [10, 31] tq_div_euclid_signed(a: i64, b: i64, width: u32, frac: u32, manner: u32) -> Signed;
-    Raw [10, 31] tq_div_euclid_unsigned(a: u64, b: u64, width: u32, frac: u32, manner: u32) -> Unsigned;
-    Raw [10] tq_dist_signed(a: i64, b: i64, width: u32, frac: u32, manner: u32) -> Signed;
-    Raw [10] tq_dist_unsigned(a: u64, b: u64, width: u32, frac: u32, manner: u32) -> Unsigned;
-    Raw [10] tq_mean_signed(a: i64, b: i64, width: u32, frac: u32, manner: u32) -> Signed;
-    Raw [10] tq_mean_unsigned(a: u64, b: u64, width: u32, frac: u32, manner: u32) -> Unsigned;
-    Raw [10] tq_mul_add_signed(a: i64, b: i64, c: i64, width: u32, frac: u32, manner: u32) -> Signed;
-    Raw [10] tq_mul_add_unsigned(a: u64, b: u64, c: u64, width: u32, frac: u32, manner: u32) -> Unsigned;
+    Raw [10] tq_abs_signed(a, width, frac, manner);
+    Raw [10] tq_abs_unsigned(a, width, frac, manner);
+    Raw [10] tq_signum_signed(a, width, frac, manner);
+    Raw [10] tq_signum_unsigned(a, width, frac, manner);
+    Raw [10] tq_round_signed(a, width, frac, manner);
+    Raw [10] tq_round_unsigned(a, width, frac, manner);
+    Raw [10] tq_ceil_signed(a, width, frac, manner);
+    Raw [10] tq_ceil_unsigned(a, width, frac, manner);
+    Raw [10] tq_floor_signed(a, width, frac, manner);
+    Raw [10] tq_floor_unsigned(a, width, frac, manner);
+    Raw [10] tq_int_signed(a, width, frac, manner);
+    Raw [10] tq_int_unsigned(a, width, frac, manner);
+    Raw [10] tq_frac_signed(a, width, frac, manner);
+    Raw [10] tq_frac_unsigned(a, width, frac, manner);
+    Raw [10] tq_round_ties_even_signed(a, width, frac, manner);
+    Raw [10] tq_round_ties_even_unsigned(a, width, frac, manner);
+    Raw [10, 31] tq_rem_euclid_signed(a, b, width, frac, manner);
+    Raw [10, 31] tq_rem_euclid_unsigned(a, b, width, frac, manner);
+    Raw [10, 31] tq_div_euclid_signed(a, b, width, frac, manner);
+    Raw [10, 31] tq_div_euclid_unsigned(a, b, width, frac, manner);
+    Raw [10] tq_dist_signed(a, b, width, frac, manner);
+    Raw [10] tq_dist_unsigned(a, b, width, frac, manner);
+    Raw [10] tq_mean_signed(a, b, width, frac, manner);
+    Raw [10] tq_mean_unsigned(a, b, width, frac, manner);
+    Raw [10] tq_mul_add_signed(a, b, c, width, frac, manner);
+    Raw [10] tq_mul_add_unsigned(a, b, c, width, frac, manner);
 }
 
 /// The functions of every group that is switched on.

@@ -5,12 +5,11 @@
 //!
 //! Its last line is 'N passed, M failed'.
 
+#[path = "../common/mod.rs"]
+mod common;
 #[allow(dead_code)]
 #[path = "../src/format.rs"]
 mod format;
-#[allow(dead_code)]
-#[path = "../src/random.rs"]
-mod random;
 #[allow(dead_code)]
 #[path = "../src/scan.rs"]
 mod scan;
@@ -18,8 +17,9 @@ mod scan;
 #[path = "../src/texts.rs"]
 mod texts;
 
+use common::random::{self, Random};
+use common::tally::Tally;
 use format::{RADIXES, Reader, STRICT};
-use random::Random;
 use scan::Written;
 
 #[repr(C)]
@@ -72,90 +72,66 @@ fn written(text: &[u8], probe: &Probe) -> Result<Written, u32> {
     })
 }
 
-#[derive(Default)]
-struct Tally {
-    passed: u64,
-    failed: u64,
+fn same(t: &mut Tally, text: &[u8], what: &str, probe: &Probe, right: Result<Written, u32>) {
+    t.same(written(text, probe), right, || format!("{what} {:?}", String::from_utf8_lossy(text)));
 }
 
-impl Tally {
-    fn same(&mut self, text: &[u8], what: &str, ours: Result<Written, u32>, right: Result<Written, u32>) {
-        if ours == right {
-            self.passed += 1;
-            return;
-        }
-        self.failed += 1;
-        if self.failed <= 20 {
-            println!("{what} {:?}: scanner {ours:?}, automaton {right:?}", String::from_utf8_lossy(text));
-        }
-    }
+fn plain(t: &mut Tally, text: &[u8], radix: u32) {
+    // SAFETY: the pointer and the length are those of a slice that outlives the call
+    let probe = unsafe { probe_plain(text.as_ptr(), text.len(), radix) };
+    let right = scan::scan(text, Reader::Plain { radix, manner: STRICT }, true);
+    same(t, text, &format!("plain, radix {radix},"), &probe, right);
+}
 
-    fn plain(&mut self, text: &[u8], radix: u32) {
-        // SAFETY: the pointer and the length are those of a slice that outlives the call
-        let probe = unsafe { probe_plain(text.as_ptr(), text.len(), radix) };
-        let right = scan::scan(text, Reader::Plain { radix, manner: STRICT }, true);
-        self.same(text, &format!("plain, radix {radix},"), written(text, &probe), right);
-    }
-
-    fn literal(&mut self, text: &[u8]) {
-        for signed in [false, true] {
-            // SAFETY: as above
-            let probe = unsafe { probe_literal(text.as_ptr(), text.len(), signed.into()) };
-            let right = scan::scan(text, Reader::Literal, signed);
-            self.same(
-                text,
-                if signed { "literal, signed," } else { "literal, unsigned," },
-                written(text, &probe),
-                right,
-            );
-        }
+fn literal(t: &mut Tally, text: &[u8]) {
+    for (signed, what) in [(false, "literal, unsigned,"), (true, "literal, signed,")] {
+        // SAFETY: as above
+        let probe = unsafe { probe_literal(text.as_ptr(), text.len(), signed.into()) };
+        same(t, text, what, &probe, scan::scan(text, Reader::Literal, signed));
     }
 }
 
-fn short(tally: &mut Tally, longest: usize) {
-    let plain: [(u32, &[u8]); 4] =
-        [(2, b"012.+-_eEpP@x"), (8, b"013478.+-_epP@x"), (10, b"01259.+-_eE@px"), (16, b"0148fA.+-_pP@eg")];
-    for (radix, alphabet) in plain {
-        texts::exhaustive(b"", alphabet, longest, |text| tally.plain(text, radix));
+fn short(t: &mut Tally, longest: usize) {
+    for (radix, alphabet) in texts::TELLING_BYTES {
+        texts::exhaustive(b"", alphabet, longest, |text| plain(t, text, radix));
     }
-    texts::exhaustive(b"", b"018box.+-_ep@", longest, |text| tally.literal(text));
+    texts::exhaustive(b"", b"018box.+-_ep@", longest, |text| literal(t, text));
     for prefix in [&b"0b"[..], b"0o", b"0x", b"-0x"] {
-        texts::exhaustive(prefix, b"0148fA.+-_p@eg", longest - 1, |text| tally.literal(text));
+        texts::exhaustive(prefix, b"0148fA.+-_p@eg", longest - 1, |text| literal(t, text));
     }
 }
 
 /// Every byte in every state of the automaton, and every byte after it.
-fn bytes(tally: &mut Tally) {
+fn bytes(t: &mut Tally) {
     let every_byte: Vec<u8> = (0..=255).collect();
-    for beginning in [&b""[..], b"+", b"-", b"1", b".", b"1.0", b"1@", b"1@-", b"1@0"] {
+    for beginning in texts::INTO_EACH_STATE {
         texts::exhaustive(beginning, &every_byte, 2, |text| {
-            RADIXES.iter().for_each(|radix| tally.plain(text, *radix));
-            tally.literal(text);
+            RADIXES.iter().for_each(|radix| plain(t, text, *radix));
+            literal(t, text);
         });
     }
 }
 
-fn long(tally: &mut Tally, random: &mut Random) {
+fn long(t: &mut Tally, random: &mut Random) {
     for count in 0..200_000 {
         let longest = if count % 100 == 0 { 1500 } else { 40 };
         let radix = random.pick(&RADIXES);
-        let mut plain = texts::plain(random, radix, longest);
-        let mut literal = texts::literal(random, longest);
+        let mut number = texts::plain(random, radix, longest);
+        let mut constant = texts::literal(random, longest);
         if count % 2 == 0 {
-            texts::damage(random, &mut plain);
-            texts::damage(random, &mut literal);
+            texts::damage(random, &mut number);
+            texts::damage(random, &mut constant);
         }
-        tally.plain(&plain, radix);
-        tally.literal(&literal);
+        plain(t, &number, radix);
+        literal(t, &constant);
     }
 }
 
 fn main() {
     let longest = std::env::args().nth(1).map_or(6, |word| word.parse().expect("LONGEST is a number of bytes"));
-    let mut tally = Tally::default();
-    short(&mut tally, longest);
-    bytes(&mut tally);
-    long(&mut tally, &mut Random::new(1));
-    println!("{} passed, {} failed", tally.passed, tally.failed);
-    std::process::exit(i32::from(tally.failed != 0));
+    let mut t = Tally::default();
+    short(&mut t, longest);
+    bytes(&mut t);
+    long(&mut t, &mut Random::new(1));
+    t.close()
 }

@@ -1,26 +1,22 @@
 //! Reading speed: S and the port in one process, on the same decimal texts, strict, signed, W = 64, F = 32.
 
+use crate::common::timing::{each, in_turns};
 use crate::format::{Format, Outcome, Reader, STRICT};
 use crate::original;
 use crate::port;
 use crate::random::Random;
-use std::hint::black_box;
-use std::time::Instant;
 
 const LENGTHS: [usize; 3] = [5, 20, 60];
 const TEXTS: usize = 4096;
-/// Both sides take turns; the fastest round of each counts, since everything else on the machine only slows one down.
 const ROUNDS: usize = 60;
 
 pub fn bench(seed: u64) {
     let mut random = Random::new(seed);
     for length in LENGTHS {
         let texts: Vec<Vec<u8>> = (0..TEXTS).map(|_| text(&mut random, length)).collect();
-        let (mut of_s, mut of_port) = (f64::MAX, f64::MAX);
-        for _ in 0..ROUNDS {
-            of_s = of_s.min(round(&texts, original::reads_i32f32));
-            of_port = of_port.min(round(&texts, read_by_port));
-        }
+        let texts: Vec<&[u8]> = texts.iter().map(Vec::as_slice).collect();
+        let (of_port, of_s) = in_turns(ROUNDS, || each(&texts, read_by_port), || each(&texts, original::reads_i32f32));
+        let (of_port, of_s) = (of_port.fastest(), of_s.fastest());
         match read_by_port(b"1") {
             true => println!("{length} digits: S {of_s:.1} ns, the port {of_port:.1} ns, ratio {:.2}", of_port / of_s),
             false => println!("{length} digits: S {of_s:.1} ns, no port is linked"),
@@ -35,15 +31,6 @@ fn text(random: &mut Random, length: usize) -> Vec<u8> {
     text[0] = random.pick(b"123456789");
     text.insert(whole, b'.');
     text
-}
-
-/// Nanoseconds for each text.
-fn round(texts: &[Vec<u8>], read: impl Fn(&[u8]) -> bool) -> f64 {
-    let start = Instant::now();
-    for text in texts {
-        black_box(read(black_box(text)));
-    }
-    start.elapsed().as_secs_f64() * 1e9 / texts.len() as f64
 }
 
 fn read_by_port(text: &[u8]) -> bool {

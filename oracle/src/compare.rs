@@ -1,6 +1,7 @@
 //! Puts one question to S, the model and, where it is linked, the port, and keeps count.
 
 use crate::classes::{Class, Occasion};
+use crate::common::tally;
 use crate::format::{Answer, Format, MANNERS, Outcome, Reader};
 use crate::model::{self, Exact};
 use crate::original;
@@ -8,14 +9,10 @@ use crate::pages::{self, Stated};
 use crate::port;
 use crate::scan::scan;
 
-/// What differs is printed this often at most; the rest is counted.
-const SHOWN: u64 = 20;
-
 #[derive(Default)]
 pub struct Tally {
     pub texts: u64,
-    pub compared: u64,
-    pub failed: u64,
+    pub answers: tally::Tally,
     pub in_class: [u64; Class::ALL.len()],
     /// For each class the shortest text met, to be held against docs/DIFFERENCES.md.
     pub smallest: [Option<(Vec<u8>, Reader, Format)>; Class::ALL.len()],
@@ -81,14 +78,13 @@ impl Tally {
             self.stated(&witness.right, |tally, occasion, right| {
                 tally.judge_s(occasion, witness.of_s);
                 tally.judge_port(occasion, right);
-                tally.expect(
-                    Class::of(occasion) == Some(witness.class),
-                    &format!("a witness is not in {:?}", witness.class),
-                );
+                let class = witness.class;
+                tally.answers.see(Class::of(occasion) == Some(class), || format!("a witness is not in {class:?}"));
             });
         }
         for class in Class::ALL {
-            self.expect(witnesses.iter().any(|witness| witness.class == class), &format!("no page tells of {class:?}"));
+            let told = witnesses.iter().any(|witness| witness.class == class);
+            self.answers.see(told, || format!("no page tells of {class:?}"));
         }
     }
 
@@ -124,7 +120,8 @@ impl Tally {
 
     fn judge_log10(&mut self, side: &str, raw: i128, format: Format, found: Outcome, right: Answer) {
         self.settle(found, right, |tally| {
-            tally.fail(&format!("log10 of the raw {raw} {format:?}: {side} gives {found:?}, the model {right:?}"));
+            let told = || format!("log10 of the raw {raw} {format:?}: {side} gives {found:?}, the model {right:?}");
+            tally.answers.see(false, told);
         });
     }
 
@@ -150,32 +147,28 @@ impl Tally {
         self.settle(found, right, |tally| tally.differs(side, occasion, found, right));
     }
 
+    pub fn compared(&self) -> u64 {
+        self.answers.passed + self.answers.failed
+    }
+
     /// Counts the text, if anyone was there to be asked.
     fn counted(&mut self, ask: impl FnOnce(&mut Tally)) {
-        let before = self.compared;
+        let before = self.compared();
         ask(self);
-        self.texts += u64::from(self.compared > before);
+        self.texts += u64::from(self.compared() > before);
     }
 
-    /// Counts one answer; a side that is absent has none.
+    /// Counts one answer, or leaves it to be counted where it is not the right one; a side that is absent has none.
     fn settle(&mut self, found: Outcome, right: Answer, otherwise: impl FnOnce(&mut Tally)) {
-        if found == Outcome::Absent {
-            return;
-        }
-        self.compared += 1;
-        if found != Outcome::Answered(right) {
-            otherwise(self);
-        }
-    }
-
-    fn expect(&mut self, holds: bool, otherwise: &str) {
-        self.compared += 1;
-        if !holds {
-            self.fail(otherwise);
+        match found {
+            Outcome::Absent => {}
+            Outcome::Answered(answer) if answer == right => self.answers.passed += 1,
+            _ => otherwise(self),
         }
     }
 
     fn explained(&mut self, class: Class, occasion: &Occasion) {
+        self.answers.passed += 1;
         self.in_class[class as usize] += 1;
         let smallest = &mut self.smallest[class as usize];
         if smallest.as_ref().is_none_or(|(text, ..)| occasion.text.len() < text.len()) {
@@ -185,14 +178,9 @@ impl Tally {
 
     fn differs(&mut self, side: &str, occasion: &Occasion, found: Outcome, right: Answer) {
         let Occasion { text, reader, format, .. } = occasion;
-        let text = String::from_utf8_lossy(text);
-        self.fail(&format!("`{text}` {reader:?} {format:?}: {side} gives {found:?}, the model {right:?}"));
-    }
-
-    fn fail(&mut self, what: &str) {
-        self.failed += 1;
-        if self.failed <= SHOWN {
-            println!("failed: {what}");
-        }
+        self.answers.see(false, || {
+            let text = String::from_utf8_lossy(text);
+            format!("`{text}` {reader:?} {format:?}: {side} gives {found:?}, the model {right:?}")
+        });
     }
 }

@@ -86,7 +86,7 @@ fn whole_quotient(random: &mut Random, frac: u32) -> u128 {
 
 /// A number up to this one, of any size, and as often so far from the top.
 fn up_to(random: &mut Random, top: u128) -> u128 {
-    let number = u128::from(random.next() >> random.below(64)).min(top);
+    let number = u128::from(random.sized(64)).min(top);
     if random.one_in(2) { top - number } else { number }
 }
 

@@ -1,10 +1,11 @@
 //! Compares S, an exact model and the port on texts. `oracle/run` builds and starts this.
 
+#[cfg(any(without_s, not(port)))]
+mod absent;
 mod bench;
-#[cfg(port)]
-#[path = "../capi.rs"]
-mod capi;
 mod classes;
+#[path = "../common/mod.rs"]
+mod common;
 mod compare;
 mod division;
 mod format;
@@ -15,13 +16,13 @@ mod original;
 mod pages;
 mod picks;
 mod port;
-mod random;
 mod runs;
 mod sample;
 mod scan;
 mod texts;
 
 use classes::Class;
+use common::random;
 use compare::Tally;
 use runs::{Effort, RUNS};
 use std::process::exit;
@@ -33,12 +34,12 @@ fn main() {
         ["bench"] => bench::bench(effort.seed),
         ["sample", "text"] => sample::text_sample(effort.seed),
         ["sample", "log10"] => sample::log10_sample(effort.seed),
-        _ => exit(compare_all(&effort, &names)),
+        _ => compare_all(&effort, &names),
     }
 }
 
-/// Makes the runs named, and answers the exit status.
-fn compare_all(effort: &Effort, names: &[String]) -> i32 {
+/// Makes the runs named, and ends with the count.
+fn compare_all(effort: &Effort, names: &[String]) -> ! {
     let all = names.iter().any(|name| name == "all");
     let unknown =
         names.iter().find(|name| *name != "all" && *name != "pages" && RUNS.iter().all(|(known, _)| known != name));
@@ -57,8 +58,7 @@ fn compare_all(effort: &Effort, names: &[String]) -> i32 {
         }
     }
     report(&mut total, all);
-    println!("{} passed, {} failed", total.compared - total.failed, total.failed);
-    i32::from(total.failed > 0)
+    total.answers.close()
 }
 
 fn arguments() -> (Effort, Vec<String>) {
@@ -94,13 +94,13 @@ fn usage(fault: &str) -> ! {
 }
 
 fn measured(name: &str, total: &mut Tally, run: impl FnOnce(&mut Tally)) {
-    let (start, texts, compared, failed) = (Instant::now(), total.texts, total.compared, total.failed);
+    let (start, texts, compared, failed) = (Instant::now(), total.texts, total.compared(), total.answers.failed);
     run(total);
     println!(
         "{name}: {} texts, {} answers compared, {} failed, {:.1} s",
         total.texts - texts,
-        total.compared - compared,
-        total.failed - failed,
+        total.compared() - compared,
+        total.answers.failed - failed,
         start.elapsed().as_secs_f64()
     );
 }
@@ -115,8 +115,7 @@ fn report(total: &mut Tally, all: bool) {
                 println!("class {class:?}: {count} differences, the shortest text `{text}` {reader:?} {format:?}");
             }
             None if all && cfg!(not(without_s)) => {
-                println!("class {class:?} no longer occurs");
-                total.failed += 1;
+                total.answers.see(false, || format!("class {class:?} no longer occurs"));
             }
             None => {}
         }

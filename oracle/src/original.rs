@@ -1,7 +1,7 @@
 //! S, as the harness asks it. Built without S's files (`--cfg without_s`), it answers nothing, and the model stands alone.
 
 #[cfg(without_s)]
-pub use absent::*;
+pub use crate::absent::*;
 #[cfg(not(without_s))]
 pub use present::*;
 
@@ -57,24 +57,5 @@ mod present {
     /// Strict reading into I32F32, as a program that uses the crate would call it: for the benchmark.
     pub fn reads_i32f32(text: &[u8]) -> bool {
         s::from_str::i64::from_str_radix(text, 10, 32).is_ok()
-    }
-}
-
-#[cfg(without_s)]
-mod absent {
-    use crate::format::{Format, Outcome, Reader};
-
-    pub fn hide_panics_of_s() {}
-
-    pub fn answer(_: &[u8], _: Reader, _: Format) -> Outcome {
-        Outcome::Absent
-    }
-
-    pub fn log10(_: i128, _: Format) -> Outcome {
-        Outcome::Absent
-    }
-
-    pub fn reads_i32f32(_: &[u8]) -> bool {
-        false
     }
 }

@@ -51,7 +51,7 @@ pub fn raws(random: &mut Random, width: u32, frac: u32, count: u64) -> Vec<u64> 
     let mut raws: Vec<u64> = (0..4)
         .flat_map(|near| [near, top - near, (top / 2).wrapping_add(near), one.wrapping_sub(near + 1), one + near])
         .collect();
-    raws.extend((0..count).map(|_| random.next() >> random.below(64)));
+    raws.extend((0..count).map(|_| random.sized(64)));
     raws.iter().map(|raw| raw & top).collect()
 }
 

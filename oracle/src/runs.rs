@@ -40,9 +40,7 @@ pub const RUNS: [(&str, Run); 14] = [
 /// Every short text over the bytes that matter in its radix, plain and literal, in formats that show something.
 fn short(tally: &mut Tally, effort: &Effort) {
     let formats = telling_formats();
-    let plain: [(u32, &[u8]); 4] =
-        [(2, b"012.+-_eEpP@x"), (8, b"013478.+-_epP@x"), (10, b"01259.+-_eE@px"), (16, b"0148fA.+-_pP@eg")];
-    for (radix, alphabet) in plain {
+    for (radix, alphabet) in texts::TELLING_BYTES {
         exhaustive(b"", alphabet, effort.longest, |text| tally.text(text, Some(radix), &formats));
     }
     exhaustive(b"", b"018box.+-_ep@", effort.longest, |text| tally.text(text, None, &formats));
@@ -66,8 +64,7 @@ fn formats(tally: &mut Tally, effort: &Effort) {
 fn bytes(tally: &mut Tally, _: &Effort) {
     let every_byte: Vec<u8> = (0..=255).collect();
     let formats = both_signs(16, 8);
-    let into_each_state: [&[u8]; 9] = [b"", b"+", b"-", b"1", b".", b"1.0", b"1@", b"1@-", b"1@0"];
-    for beginning in into_each_state {
+    for beginning in texts::INTO_EACH_STATE {
         exhaustive(beginning, &every_byte, 2, |text| {
             for radix in RADIXES {
                 tally.text(text, Some(radix), &formats);
@@ -240,7 +237,7 @@ fn log10(tally: &mut Tally, effort: &Effort) {
     let mut random = Random::new(effort.seed + 6);
     for (width, frac) in all_pairs() {
         let mut raws = if width <= 16 { (0..1 << width).collect() } else { around_powers_of_ten(frac) };
-        raws.extend((0..100 * effort.times).map(|_| random.next() >> random.below(64)));
+        raws.extend((0..100 * effort.times).map(|_| random.sized(64)));
         for format in both_signs(width, frac) {
             raws.iter().for_each(|bits| tally.log10(raw_of(*bits, format), format));
             let most = if format.signed { i128::from(i64::MAX) } else { i128::from(u64::MAX) };

@@ -2,6 +2,13 @@
 
 use crate::random::Random;
 
+/// The bytes that matter in each radix: digits and none, marks and none, signs, the point, the underscore.
+pub const TELLING_BYTES: [(u32, &[u8]); 4] =
+    [(2, b"012.+-_eEpP@x"), (8, b"013478.+-_epP@x"), (10, b"01259.+-_eE@px"), (16, b"0148fA.+-_pP@eg")];
+
+/// Texts that bring the automaton into each of its states.
+pub const INTO_EACH_STATE: [&[u8]; 9] = [b"", b"+", b"-", b"1", b".", b"1.0", b"1@", b"1@-", b"1@0"];
+
 /// Every text of up to `longest` bytes over the alphabet, after a fixed beginning, in order of length.
 pub fn exhaustive(beginning: &[u8], alphabet: &[u8], longest: usize, mut visit: impl FnMut(&[u8])) {
     for length in 0..=longest {

@@ -17,6 +17,11 @@ impl Random {
         mixed ^ (mixed >> 31)
     }
 
+    /// A number below 2^bits, every length of it with the same chance.
+    pub fn sized(&mut self, bits: u32) -> u64 {
+        self.next() >> (64 - bits) >> self.below(bits as usize)
+    }
+
     /// From 0 to bound - 1.
     pub fn below(&mut self, bound: usize) -> usize {
         (self.next() % bound as u64) as usize
