@@ -9,7 +9,7 @@ use lib.Pow.{pow-pos}
 use lib.IntN.{ℤ, pos, negsuc, negℤ, natAbs, _+ℤ_, _*ℤ_, *ℤ-comm, negℤ-negℤ}
 use lib.Signed.{quotZ, remZ, _≤ℤ_, ≤ℤ-refl}
 use Rattle.laws.specs.Diff.{dn, le-in, eq-in, add-out, up-neg, dn-neg, up-mul, dn-mul}
-use Rattle.laws.specs.Bound.{abs-mul}
+use Rattle.laws.specs.Bound.{abs-neg, abs-mul}
 use Rattle.laws.specs.Floor.{IsFloor, floor, shrZ-floor}
 use Rattle.laws.specs.Order.{+ℤ-mono}
 use Rattle.laws.specs.Ring.{*ℤ-distribʳ, *ℤ-assoc}
@@ -30,10 +30,6 @@ pub record IsQuotient (n d q : ℤ) : Type 0 where
   pub low : natAbs q * natAbs d ≤ natAbs n
   pub high : natAbs n < (natAbs q + 1) * natAbs d
   pub sign : pos 0 ≤ℤ (q *ℤ (n *ℤ d))
-
-abs-neg : (m : ℕ) → natAbs (negℤ (pos m)) ≡ m
-abs-neg zero = refl
-abs-neg (suc m) = refl
 
 abs-quot : (n d : ℤ) → natAbs (quotZ n d) ≡ natAbs n / natAbs d
 abs-quot (pos a) (pos b) = refl

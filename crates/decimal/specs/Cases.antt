@@ -1,6 +1,6 @@
 -- Document 01's case of the writer, the ends of the formats and the buffers, computed from the meaning. Assumes nothing.
 use mathlib.Core.Path.{_≡_, refl, sym, ap, ap₂, _∙_}
-use mathlib.Core.Bool.{Bool, true, false, _&&_, false≢true}
+use mathlib.Core.Bool.{Bool, true, false, _&&_}
 use mathlib.Core.List.{List, [], _∷_, _++_, map}
 use Prim.Native.Nat.{ℕ, suc, _/_, _%_, _^_, _<_}
 use Prim.Native.String.{String}
@@ -15,6 +15,7 @@ use Rattle.laws.specs.Diff.{orders}
 use Rattle.laws.specs.Tests.{lt-ltZ, le-ltZ}
 use Rattle.laws.specs.Text.{bytes}
 use Rattle.format.specs.Meaning.{Outcome, done, refused, isWidth, faultOf, unless}
+use Rattle.grammar.specs.Run.{both}
 use Rattle.decimal.specs.Meaning.{byteOf, wholeBy, wholeDigits, fractionBy, fractionDigits, minus as signOf, wholeText, fractionText, textOf, rawText, put, after, writeOf, leftOf}
 use Rattle.decimal.specs.Digits.{whole-by}
 
@@ -125,10 +126,6 @@ quick-row (negsuc n over f is t) h = quick-text true (suc n) f (ltb-true (suc n)
 abbrev all-short : List Row → Bool
 all-short [] = true
 all-short (r ∷ rs) = short r && all-short rs
-
-both : (a b : Bool) → (a && b) ≡ true → (a ≡ true) × (b ≡ true)
-both true b e = (refl, e)
-both false b e = absurd (false≢true e)
 
 quick-rows : (rs : List Row) → all-short rs ≡ true → map got rs ≡ map quickly rs
 quick-rows [] h = refl

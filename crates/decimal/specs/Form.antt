@@ -12,7 +12,7 @@ use lib.Pow.{pow-pos}
 use lib.ListN.{length}
 use borrow.Author.Tests.{eqb-true, eqb-false}
 use Rattle.grammar.specs.Meaning.{natFrom}
-use Rattle.grammar.specs.Rounding.{natOf}
+use Rattle.grammar.specs.Naturals.{natOf, natFrom-snoc, natOf-cons, natOf-append}
 use Rattle.decimal.specs.Meaning.{byteOf, wholeDigits, fractionBy, fractionDigits, minus, wholeText, fractionText, textOf}
 use Rattle.decimal.specs.Layout.{Ends}
 use Rattle.decimal.specs.Digits.{whole-last, whole-more, whole-ind, fraction-none, fraction-more, ends-start, ends-next, ends-none}
@@ -52,35 +52,14 @@ pub record Form (neg : Bool) (ws fs : List ℕ) : Type 0 where
 abbrev pub Writes : List ℕ → List ℕ → ℕ → ℕ → Type 0
 Writes ws fs m f = natOf 10 (ws ++ fs) * 2 ^ f ≡ m * 10 ^ length fs
 
--- ---- digits as a number
-nat-append : (ds es : List ℕ) (n : ℕ) → natFrom 10 (ds ++ es) n ≡ natFrom 10 es (natFrom 10 ds n)
-unfolding natFrom
-nat-append [] es n = refl
-nat-append (d ∷ ds) es n = nat-append ds es (n * 10 + d)
-
-nat-from : (ds : List ℕ) (n : ℕ) → natFrom 10 ds n ≡ n * 10 ^ length ds + natOf 10 ds
-unfolding natFrom
-nat-from [] n = omega (arith, pow-zero 10)
-nat-from (d ∷ ds) n =
-    let p = 10 ^ length ds in
-    let e = nat-from ds (n * 10 + d) in
-    let z = nat-from ds (0 * 10 + d) in
-    omega (arith, e, z, pow-suc 10 (length ds), ap (λ (v : ℕ). n * v) (pow-suc 10 (length ds)))
-
-pub nat-cons : (d : ℕ) (ds : List ℕ) → natOf 10 (d ∷ ds) ≡ d * 10 ^ length ds + natOf 10 ds
-unfolding natFrom
-nat-cons d ds = nat-from ds (0 * 10 + d) ∙ omega arith
-
-pub nat-both : (ds es : List ℕ) → natOf 10 (ds ++ es) ≡ natOf 10 ds * 10 ^ length es + natOf 10 es
-nat-both ds es = nat-append ds es 0 ∙ nat-from es (natOf 10 ds)
-
+-- ---- how large a number of digits is
 pub nat-below : {ds : List ℕ} → Digits ds → natOf 10 ds < 10 ^ length ds
 unfolding natFrom
 nat-below none = omega (arith, pow-zero 10)
 nat-below {ds = d ∷ ds} (more h r) =
     let low = nat-below r in
     let most = mul-le-mul-right (10 ^ length ds) h in
-    omega (arith, nat-cons d ds, pow-suc 10 (length ds), most)
+    omega (arith, natOf-cons 10 d ds, pow-suc 10 (length ds), most)
 
 -- x / m is d, and what is left, over m, is v / p
 quotient : (x d m p v : ℕ) → 0 < m → 0 < p → v < p → x * p ≡ d * m * p + v * m → (x / m ≡ d) × (x % m * p ≡ v * m)
@@ -99,7 +78,7 @@ unfolding natFrom
 whole-nat =
     whole-ind (λ n. natOf 10 (wholeDigits n) ≡ n)
     (λ n h. ap (natOf 10) (whole-last n h) ∙ omega arith)
-    (λ n h p. ap (natOf 10) (whole-more n h) ∙ nat-append (wholeDigits (n / 10)) (n % 10 ∷ []) 0 ∙ ap (λ (v : ℕ). v * 10 + n % 10) p ∙ omega arith)
+    (λ n h p. ap (natOf 10) (whole-more n h) ∙ natFrom-snoc 10 (wholeDigits (n / 10)) (n % 10) 0 ∙ ap (λ (v : ℕ). v * 10 + n % 10) p ∙ omega arith)
 
 digits-snoc : {ds : List ℕ} {d : ℕ} → Digits ds → d < 10 → Digits (ds ++ (d ∷ []))
 digits-snoc none h = more h none
@@ -148,7 +127,7 @@ whole-only (first {d} {e} {ds} p) (more h r) =
 trails-some : {d : ℕ} {ds : List ℕ} → Trails (d ∷ ds) → 0 < natOf 10 (d ∷ ds)
 unfolding natFrom
 trails-some (last h) = omega arith
-trails-some {d} (before {e = e} {ds = ds} t) = omega (arith, nat-cons d (e ∷ ds), trails-some t)
+trails-some {d} (before {e = e} {ds = ds} t) = omega (arith, natOf-cons 10 d (e ∷ ds), trails-some t)
 
 trails-rest : {d : ℕ} {ds : List ℕ} → Trails (d ∷ ds) → Trails ds
 trails-rest (last h) = empty
@@ -183,7 +162,7 @@ module _ (m : ℕ) (pos-m : 0 < m) where
           let d = n * 10 / m in
           let p = 10 ^ length ds in
           let cut : (d * m + n * 10 % m) * p ≡ n * 10 * p = ap (λ (v : ℕ). v * p) (div-add-mod' (n * 10) m) in
-          let split : natOf 10 (d ∷ ds) * m ≡ (d * p + natOf 10 ds) * m = ap (λ (v : ℕ). v * m) (nat-cons d ds) in
+          let split : natOf 10 (d ∷ ds) * m ≡ (d * p + natOf 10 ds) * m = ap (λ (v : ℕ). v * m) (natOf-cons 10 d ds) in
           let power : n * 10 ^ suc (length ds) ≡ n * (p * 10) = ap (λ (v : ℕ). n * v) (pow-suc 10 (length ds)) in
           omega (arith, cut, split, power, r)
 
@@ -199,7 +178,7 @@ module _ (m : ℕ) (pos-m : 0 < m) where
       let p = 10 ^ length ds in
       let some : 0 < natOf 10 (d ∷ ds) * m = mul-pos (trails-some t) pos-m in
       let not-none : n ≡ 0 → ⊥ = λ z. omega (arith, w, some, ap (λ (v : ℕ). v * 10 ^ length (d ∷ ds)) z) in
-      let split : natOf 10 (d ∷ ds) * m ≡ (d * p + natOf 10 ds) * m = ap (λ (v : ℕ). v * m) (nat-cons d ds) in
+      let split : natOf 10 (d ∷ ds) * m ≡ (d * p + natOf 10 ds) * m = ap (λ (v : ℕ). v * m) (natOf-cons 10 d ds) in
       let power : n * 10 ^ suc (length ds) ≡ n * (p * 10) = ap (λ (v : ℕ). n * v) (pow-suc 10 (length ds)) in
       let q = quotient (n * 10) d m p (natOf 10 ds) pos-m (one-le-pow (length ds) 10 (lit< tt)) (nat-below r) (omega (arith, w, split, power)) in
       fraction-more m k n not-none
@@ -245,7 +224,7 @@ digits-write m f =
     let n = m % 2 ^ f in
     let ds = fractionBy (2 ^ f) f n in
     let p = 10 ^ length ds in
-    let number : natOf 10 (wholeDigits q ++ ds) ≡ q * p + natOf 10 ds = nat-both (wholeDigits q) ds ∙ ap (λ (v : ℕ). v * p + natOf 10 ds) (whole-nat q) in
+    let number : natOf 10 (wholeDigits q ++ ds) ≡ q * p + natOf 10 ds = natOf-append 10 (wholeDigits q) ds ∙ ap (λ (v : ℕ). v * p + natOf 10 ds) (whole-nat q) in
     let scaled : natOf 10 (wholeDigits q ++ ds) * 2 ^ f ≡ (q * p + natOf 10 ds) * 2 ^ f = ap (λ (v : ℕ). v * 2 ^ f) number in
     let rest : natOf 10 ds * 2 ^ f ≡ n * p = fraction-nat (2 ^ f) (pow-pos f) f n (mod-lt m (pow-pos f)) (ends-start f n) in
     let cut : (q * 2 ^ f + n) * p ≡ m * p = ap (λ (v : ℕ). v * p) (div-add-mod' m (2 ^ f)) in
@@ -275,7 +254,7 @@ pub only : (neg : Bool) (ws fs : List ℕ) (m f : ℕ) → Form neg ws fs → Wr
 unfolding fractionDigits
 only neg ws fs m f form w =
     let p = 10 ^ length fs in
-    let number : natOf 10 (ws ++ fs) * 2 ^ f ≡ (natOf 10 ws * p + natOf 10 fs) * 2 ^ f = ap (λ (v : ℕ). v * 2 ^ f) (nat-both ws fs) in
+    let number : natOf 10 (ws ++ fs) * 2 ^ f ≡ (natOf 10 ws * p + natOf 10 fs) * 2 ^ f = ap (λ (v : ℕ). v * 2 ^ f) (natOf-append 10 ws fs) in
     let q = quotient m (natOf 10 ws) (2 ^ f) p (natOf 10 fs) (pow-pos f) (one-le-pow (length fs) 10 (lit< tt)) (nat-below (form .fraction-digits)) (omega (arith, number, w)) in
     let whole : wholeDigits (m / 2 ^ f) ≡ ws = ap wholeDigits (q .0) ∙ whole-only (form .leads) (form .whole-digits) in
     let rest : fractionBy (2 ^ f) f (m % 2 ^ f) ≡ fs =

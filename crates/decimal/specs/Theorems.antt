@@ -30,7 +30,7 @@ use Rattle.digits.specs.Meaning.{digitsOf}
 use Rattle.grammar.specs.Meaning.{digitOf, Written, Reading, number, unread, plainReading, num, den, rawOf, isRadix, readOf}
 use Rattle.grammar.specs.Automaton.{isDigit, Part, whole, fraction, Seen, nothing, sign, digit, at, Error, blank, onSign, onPoint, step, scan, ended, finish, plainScan, readingOf}
 use Rattle.grammar.specs.Agrees.{plain-scanned}
-use Rattle.grammar.specs.Rounding.{natOf}
+use Rattle.grammar.specs.Naturals.{natOf}
 use Rattle.grammar.specs.Class.{digit-ten}
 use Rattle.grammar.specs.Accepted.{scan-append}
 use Rattle.grammar.specs.Run.{valuesOf, values-digit, runMore, runLen, partOf, withDigits, seenAfter, scan-run}

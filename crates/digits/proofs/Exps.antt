@@ -6,12 +6,13 @@ use Prim.Native.Nat.{ℕ}
 use native.Mathlib.Omega.{arith}
 use lib.ListN.{length}
 use lib.Dec.{eqb}
+use Rattle.laws.specs.Lists.{no-length}
 use Rattle.digits.specs.declared.exp.Span.{Span}
 use Rattle.digits.specs.declared.exp.Pair.{Pair}
 use Rattle.digits.specs.Meaning.{isZero, dropWhile, dropBack}
 use Rattle.digits.specs.Second.{zeros, spanOf, IsSpan, Stands, StandsExp, digitsExpOf}
 use Rattle.digits.specs.Inner.{emptySpan, StandsPair}
-use Rattle.digits.specs.Zeros.{no-length, while-append-none, while-append-some, back-append-none, back-append-some, only-if, int-zeros, frac-zeros}
+use Rattle.digits.specs.Zeros.{while-append-none, while-append-some, back-append-none, back-append-some, only-if, int-zeros, frac-zeros}
 use Rattle.digits.proofs.Spans.{empty-stands}
 
 -- a span has no digits where its count is 0

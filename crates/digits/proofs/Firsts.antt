@@ -4,13 +4,13 @@ use mathlib.Core.List.{List, [], _∷_, _++_}
 use Prim.Native.Nat.{ℕ, suc, _-_, _≤_, _<_}
 use native.Mathlib.Omega.{arith}
 use lib.ListN.{length, getD, drop}
+use Rattle.laws.specs.Lists.{no-length}
 use Rattle.digits.specs.declared.exp.Span.{Span}
 use Rattle.digits.specs.declared.exp.DigitsExp.{DigitsExp}
 use Rattle.digits.specs.declared.exp.FirstDigit.the-variants.{Is, Nothing}
 use Rattle.digits.specs.Meaning.{isUnd, digitsOf, StartsWithNo}
 use Rattle.digits.specs.Second.{part, zeros, spanOf, IsSpan, Stands, IsExp, digitsExpOf, firstDigits, RestIs}
 use Rattle.digits.specs.Promise.{SplitFirst}
-use Rattle.digits.specs.Zeros.{no-length}
 
 -- ---- the first byte of a view that has a digit is that digit
 starts-with : (v : List ℕ) → StartsWithNo isUnd v → 0 < length (digitsOf v) → (0 < length v) × (getD v 0 0 ∷ drop 1 (digitsOf v) ≡ digitsOf v)

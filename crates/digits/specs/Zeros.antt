@@ -13,13 +13,6 @@ use Rattle.digits.specs.Meaning.{isZero, dropWhile, dropBack}
 use Rattle.digits.specs.Runs.{replicate-reverse}
 use Rattle.digits.specs.Second.{zeros}
 
-pub no-length : (l : List ℕ) → length l ≡ 0 → l ≡ []
-no-length [] e = refl
-no-length (b ∷ l) e = absurd (never e)
-  where
-    never : suc (length l) ≡ 0 → ⊥
-    never q = omega arith
-
 module _ (p : ℕ → Bool) where
   pub while-append-none : (s t : List ℕ) → dropWhile p s ≡ [] → dropWhile p (s ++ t) ≡ dropWhile p t
   unfolding dropWhile

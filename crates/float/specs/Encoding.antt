@@ -6,7 +6,7 @@ use mathlib.Core.Bool.{Bool, true, false, cond}
 use Prim.Native.Nat.{ℕ, suc, _+_, _-_, _*_, _/_, _^_, _≤_, _<_}
 use native.Mathlib.Decide.{decLe}
 use native.Mathlib.Omega.{arith}
-use native.Mathlib.Nat.{le-antisymm, lt-of-lt-of-le, lt-of-le-of-lt, mul-div-cancel, mul-le-mul-right, mul-lt-mul-of-pos-right, mul-pos, pow-suc}
+use native.Mathlib.Nat.{le-antisymm, lt-of-lt-of-le, lt-of-le-of-lt, mul-div-cancel, mul-le-mul-right, mul-lt-mul-of-pos-right, mul-pos}
 use lib.Count.{leadingZeros, leading-top}
 use lib.Dec.{ltb}
 use lib.Ieee.{size}
@@ -14,7 +14,7 @@ use lib.Ieee.Digits.{size-lt, size-le}
 use lib.Pow.{pow-pos, pow-mono, pow-add, pow-lt}
 use borrow.Author.Tests.{lt-ltb, le-ltb}
 use Rattle.laws.specs.Nearest.{nearestEven, nearest, nearest-scale, nearest-least, nearest-exact, nearest-none}
-use Rattle.laws.specs.Powers.{power-sub}
+use Rattle.laws.specs.Powers.{power-sub, double}
 use Rattle.float.specs.Meaning.{Binary, bias, least, unit, significand, nearestSteps, joined, patternBy, patternOf}
 use Rattle.float.specs.Parts.{binary, Small}
 
@@ -37,10 +37,7 @@ digits-of n h l =
     let j : suc (t .0) - 1 ≡ t .0 = omega arith in
     rw e (record { some = omega arith; most = omega (arith, t .1); low = rw j (t .2); high = t .3 })
 
--- ---- small laws
-pub double : (d : ℕ) → 1 ≤ d → 2 ^ d ≡ 2 ^ (d - 1) * 2
-double d h = let e : d ≡ suc (d - 1) = omega arith in ap (λ (k : ℕ). 2 ^ k) e ∙ pow-suc 2 (d - 1)
-
+-- and no other number of them
 size-unique : (n d : ℕ) → 1 ≤ d → 2 ^ (d - 1) ≤ n → n < 2 ^ d → size n ≡ d
 size-unique n d h l u = le-antisymm (size-le n d u) (go (decLe d (size n)))
   where

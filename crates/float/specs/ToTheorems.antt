@@ -14,7 +14,7 @@ use lib.Pow.{pow-pos, pow-mono, pow-add}
 use lib.Signed.{ltZ}
 use borrow.Author.Tests.{lt-ltb, le-ltb, le-leb, lt-leb, ne-eqb}
 use Rattle.laws.specs.Nearest.{Nearest, nearest, nearestEven, nearest-exact, nearest-none}
-use Rattle.laws.specs.Powers.{power-sub}
+use Rattle.laws.specs.Powers.{power-sub, double}
 use Rattle.laws.specs.Signed.{signed as kit}
 use Rattle.format.specs.declared.Manner.{Manner}
 use Rattle.format.specs.Meaning.{Sign, faultOf, settle, withSign, done}
@@ -26,7 +26,7 @@ use Rattle.float.specs.Meaning.{Binary, bias, least, negative, biased, t
 use Rattle.float.specs.Meaning.{unit, significand, nearestSteps, rounded, joined, patternBy, patternOf}
 use Rattle.float.specs.Parts.{binary}
 use Rattle.float.specs.Encoding.{Roomy, Digits, digits-of, unit-is, significand-is, steps-below, place-below, roomy-least}
-use Rattle.float.specs.Encoding.{scaled-least, scaled-most, scaled-few, double}
+use Rattle.float.specs.Encoding.{scaled-least, scaled-most, scaled-few}
 
 -- ---- "nearest, ties to even": n / 2^f in units of the significand's last place
 pub significand-nearest : (b : Binary) (n f : ℕ) → Nearest (n * 2 ^ least b) (2 ^ f * 2 ^ unit b n f) (significand b n f)

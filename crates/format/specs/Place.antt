@@ -1,27 +1,25 @@
 -- A number as a sign and a magnitude, placed in a format by the magnitude alone: what the code tests and computes, and that it is
 -- what the meaning says. Assumes nothing.
 use mathlib.Core.Path.{_≡_, refl, sym, ap, _∙_}
-use mathlib.Core.Logic.{_⊎_, inl, inr}
-use mathlib.Core.Bool.{Bool, true, false, cond, _&&_}
-use Prim.Native.Nat.{ℕ, suc, _+_, _*_, _-_, _/_, _%_, _^_, _≤_, _<_, min}
+use mathlib.Core.Bool.{Bool, true, false, cond}
+use Prim.Native.Nat.{ℕ, _+_, _*_, _-_, _/_, _%_, _^_, _≤_, _<_, min}
 use native.Mathlib.Nat.{div-add-mod', mod-lt}
 use native.Mathlib.Omega.{arith}
 use native.Mathlib.Decide.{decLe}
 use lib.Dec.{leb, eqb, ltb}
 use lib.Pow.{pow-pos}
-use lib.IntN.{ℤ, pos, negsuc, negℤ, _+ℤ_, _-ℤ_, _*ℤ_}
-use lib.Signed.{_≤ℤ_, _<ℤ_}
+use lib.IntN.{ℤ, pos, negsuc, negℤ, _+ℤ_, _*ℤ_}
 use lib.Bits.{bitAnd, and-mask}
 use mir.Syntax.{w64}
 use mir.Val.{SFits}
-use borrow.Author.Tests.{lt-ltb, le-ltb, eq-eqb, ne-eqb, le-leb, lt-leb, eqb-true, eqb-false, leb-true, leb-false, ltb-true, ltb-false}
+use borrow.Author.Tests.{lt-ltb, le-ltb, eq-eqb, ne-eqb, le-leb, lt-leb, eqb-true, eqb-false, ltb-true, ltb-false}
 use Rattle.laws.specs.Diff.{up, dn, up-neg, dn-neg, add-out}
 use Rattle.laws.specs.Bound.{sfits-out}
 use Rattle.laws.specs.Order.{mul-out}
 use Rattle.laws.specs.Powers.{power-sub}
 use Rattle.laws.specs.Ring.{*ℤ-distribʳ}
 use Rattle.laws.specs.Signed.{signed as kit}
-use Rattle.format.specs.Meaning.{Sign, signed, unsigned, lowest, highest, fits, hold, wrap, withSign, isWidth}
+use Rattle.format.specs.Meaning.{Sign, signed, unsigned, fits, hold, wrap, withSign}
 use Rattle.format.specs.Theorems.{InRange, Congruent, limit, lowest-out, highest-out, limit-span, in-fits, unfit-iff, hold-low, hold-high, hold-id, wrap-in, wrap-only, wrap-congruent}
 
 pub sign-out : (neg : Bool) (m : ℕ) → (up (withSign neg m) ≡ cond neg 0 m) × (dn (withSign neg m) ≡ cond neg m 0)

@@ -8,11 +8,11 @@ use lib.ListN.{length, getD}
 use borrow.Author.Tests.{eqb-true, ltb-true}
 use Rattle.format.specs.declared.Manner.{Manner}
 use Rattle.format.specs.declared.Manner.the-variants.{Strict}
-use Rattle.format.specs.Meaning.{Sign, Outcome, refused, unless, faultOf, settle, withSign}
+use Rattle.format.specs.Meaning.{Sign, Outcome, refused, unless, faultOf}
 use Rattle.grammar.specs.Meaning.{digitOf, isSign, isMark, Written, Reading, number, unread, expLimit, atEnd, afterSign, exponentFrom, digitsFrom, plainReading}
 use Rattle.grammar.specs.Meaning.{literalMinus, literalBody, afterPrefix, literalRadix, literalReading, outcomeOf, isRadix, textLimit, readOf, literalOf}
-use Rattle.grammar.specs.Automaton.{isDigit, baseOf, blank, withDigit, withBase, Part, whole, fraction, exponent, Seen, nothing, sign, digit, Scan, at, refuse, Sep, Skip, Error}
-use Rattle.grammar.specs.Automaton.{onSign, onPoint, invalid, onUnderscore, onMark, onOther, plainScan, literalScan, readingOf, readScan}
+use Rattle.grammar.specs.Automaton.{isDigit, baseOf, blank, withDigit, whole, fraction, exponent, Seen, nothing, digit, Scan, at, refuse, Sep, Skip, Error}
+use Rattle.grammar.specs.Automaton.{onSign, onPoint, onUnderscore, onMark, onOther, plainScan, literalScan, readingOf, readScan}
 use Rattle.grammar.specs.Accepted.{Says, ends-says, plain-ends, literal-ends}
 use Rattle.grammar.specs.Class.{classOf, ten-plain}
 use Rattle.grammar.specs.Run.{sepOf, partOf}
@@ -20,13 +20,12 @@ use Rattle.grammar.specs.Reading.{reading, onClass, read-next, read-refu
 use Rattle.grammar.specs.Reading.{expUnder, expDigit, expOther, expStepOf, expAt, expScan, read-exp, expEnd, read-exp-end}
 use Rattle.grammar.specs.declared.scan.ExpStep.{ExpStep}
 use Rattle.grammar.specs.declared.scan.ExpStep.the-variants.{On, Refuse}
-use Rattle.grammar.specs.declared.byte.Class.{Class}
 use Rattle.grammar.specs.declared.byte.Class.the-variants.{Sign as SignByte, Point, Underscore, Mark, Other}
 
--- what is no sign is no `-`
-no-minus : (a b : Bool) → (a || b) ≡ false → b ≡ false
-no-minus true b h = absurd (true≢false h)
-no-minus false b h = h
+-- what is no sign, `+` or `-`, is no `-`
+pub or-right : (a b : Bool) → (a || b) ≡ false → b ≡ false
+or-right true b h = absurd (true≢false h)
+or-right false b h = h
 
 -- a point is no mark
 point-mark : (radix : ℕ) → isMark radix 46 ≡ false
@@ -130,7 +129,7 @@ module _ (skip : Bool) (radix : ℕ) where
         go : (s : Bool) → isSign c ≡ s → exponentFrom skip radix neg ds after base (eqb c 45) 0 false (cond s t (c ∷ t)) ≡ reading k radix (c ∷ t) (at exponent nothing (marked false))
         go true h = exponent-agrees (marked (eqb c 45)) 0 false t ∙ sym (read-exponent-sign k radix c t (marked false) h)
         go false h =
-            ap (λ (d : Bool). exponentFrom skip radix neg ds after base d 0 false (c ∷ t)) (no-minus (eqb c 43) (eqb c 45) h)
+            ap (λ (d : Bool). exponentFrom skip radix neg ds after base d 0 false (c ∷ t)) (or-right (eqb c 43) (eqb c 45) h)
             ∙ exponent-agrees (marked false) 0 false (c ∷ t) ∙ sym (read-exponent-unsigned k radix (c ∷ t) (marked false) h)
 
   -- what the automaton has seen of a part
@@ -227,7 +226,7 @@ plain-agrees radix (c ∷ t) = go (isSign c) refl
     go : (s : Bool) → isSign c ≡ s → digitsFrom false radix (eqb c 45) [] 0 false false (cond s t (c ∷ t)) ≡ reading Error radix (c ∷ t) (at whole nothing (blank false))
     go true h = digits-agrees false radix (eqb c 45) [] 0 false false t ∙ sym (read-sign Error radix c t h)
     go false h =
-        ap (λ (n : Bool). digitsFrom false radix n [] 0 false false (c ∷ t)) (no-minus (eqb c 43) (eqb c 45) h)
+        ap (λ (n : Bool). digitsFrom false radix n [] 0 false false (c ∷ t)) (or-right (eqb c 43) (eqb c 45) h)
         ∙ digits-agrees false radix false [] 0 false false (c ∷ t) ∙ sym (read-unsigned Error radix (c ∷ t) (blank false) h)
 
 pub plain-scanned : (radix : ℕ) (t : List ℕ) → plainReading radix t ≡ readingOf (plainScan radix t)

@@ -1,6 +1,6 @@
 -- The scan as an automaton, for the proofs: a part of the number, what was read of it, and the number so far; a step for each byte. Agrees.antt shows that
 -- it reads what the meaning reads. Assumes nothing.
-use mathlib.Core.Bool.{Bool, true, false, cond, _||_}
+use mathlib.Core.Bool.{Bool, false, cond}
 use mathlib.Core.List.{List, [], _∷_, _++_}
 use Prim.Native.Nat.{ℕ, _+_, _*_}
 use lib.Dec.{leb, ltb, eqb}

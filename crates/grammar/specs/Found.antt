@@ -1,8 +1,8 @@
 -- What the scanner's answer stands for: the digits of its runs in the text. Assumes nothing.
 use mathlib.Core.Path.{_≡_, refl, sym, ap, ap₂, _∙_, subst}
 use mathlib.Core.Bool.{Bool, true, false, cond, _&&_, _||_}
-use mathlib.Core.List.{List, [], _∷_, _++_, map}
-use Prim.Native.Nat.{ℕ, zero, suc, _+_, _-_, _≤_, _<_}
+use mathlib.Core.List.{List, [], _∷_, _++_}
+use Prim.Native.Nat.{ℕ, suc, _+_, _-_, _≤_, _<_}
 use native.Mathlib.Omega.{arith}
 use native.Mathlib.Numerals.{add-one}
 use lib.Dec.{eqb}
@@ -11,9 +11,9 @@ use lib.Seq.{drop-cons}
 use borrow.Author.Tests.{eq-eqb, ne-eqb, eqb-true, eqb-false}
 use Rattle.digits.specs.Meaning.{digitsOf}
 use Rattle.grammar.specs.Meaning.{digitOf, isSign, Written, Reading, number, unread}
-use Rattle.grammar.specs.Automaton.{isDigit, blank, withExp, at, exponent, nothing, sign}
+use Rattle.grammar.specs.Automaton.{isDigit, withExp, at, exponent, nothing, sign}
 use Rattle.grammar.specs.Reading.{reading, expAt, expScan, expStepOf, expEnd, read-exp, read-exp-end, read-refused, afterRun, underNumber, signFirst, read-exponent-sign, read-exponent-unsigned}
-use Rattle.grammar.specs.Run.{sepOf, valuesOf, inRun, runMore, runLen, withDigits}
+use Rattle.grammar.specs.Run.{sepOf, valuesOf, inRun, runMore, runLen}
 use Rattle.grammar.specs.declared.byte.Class.{Class}
 use Rattle.grammar.specs.declared.byte.Class.the-variants.{Sign, Point, Underscore, Mark, Other}
 use Rattle.grammar.specs.declared.scan.ExpStep.{ExpStep}

@@ -8,6 +8,7 @@ pub mod Found
 pub mod Literal
 pub mod Literals
 pub mod Meaning
+pub mod Naturals
 pub mod Parts
 pub mod Pointed
 pub mod Reading

@@ -2,13 +2,14 @@
 use mathlib.Core.Path.{_≡_, refl, sym, ap, ap₂, _∙_}
 use mathlib.Core.Bool.{Bool, true, false, cond, true≢false, false≢true}
 use mathlib.Core.List.{List, [], _∷_}
-use Prim.Native.Nat.{ℕ, zero, suc, _+_, _-_, _≤_, _<_}
+use Prim.Native.Nat.{ℕ, suc, _+_, _-_, _≤_, _<_}
 use native.Mathlib.Omega.{arith}
 use native.Mathlib.Numerals.{add-one}
 use lib.Dec.{eqb}
 use lib.ListN.{length, drop, getD, drop-of-length-le, length-drop}
 use lib.Seq.{drop-cons, drop-drop}
 use borrow.Author.Tests.{eq-eqb, ne-eqb}
+use Rattle.laws.specs.Lists.{no-length}
 use Rattle.format.specs.Meaning.{Sign, signed, unsigned}
 use Rattle.grammar.specs.Meaning.{prefixMark, prefixRadix, dropUnderscores, afterPrefix, literalMinus, literalBody, literalRadix, literalReading, isRadix}
 use Rattle.grammar.specs.Automaton.{literalScan, at, whole, sign, blank, Skip}
@@ -32,13 +33,10 @@ pub record FindsLiteral (s : Sign) (t : List ℕ) (r : LiteralWritten) : Type 0 
   pub found : Finds t (r .found) (literalReading s t)
 
 -- ---- the sign
-no-bytes : (t : List ℕ) → length t ≡ 0 → t ≡ []
-no-bytes t h = drop-of-length-le t {i = 0} (omega arith)
-
 module _ (t : List ℕ) where
   pub minus-empty : (s : Bool) → length t ≡ 0 → false ≡ literalMinus (signOf s) t
   unfolding literalMinus
-  minus-empty true h = sym (ap (literalMinus signed) (no-bytes t h))
+  minus-empty true h = sym (ap (literalMinus signed) (no-length t h))
   minus-empty false h = refl
 
   pub minus-signed : (s : Bool) → s ≡ true → eqb (getD t 0 0) 45 ≡ literalMinus (signOf s) t

@@ -1,7 +1,7 @@
 -- A literal and the plain text that it stands for: `_` is skipped, the prefix tells the radix, and the sign was read. Assumes nothing.
 use mathlib.Core.Path.{_≡_, refl, sym, ap, _∙_}
 use mathlib.Core.Logic.{_⊎_, inl, inr}
-use mathlib.Core.Bool.{Bool, true, false, cond, _||_, true≢false, false≢true}
+use mathlib.Core.Bool.{Bool, true, false, cond, false≢true}
 use mathlib.Core.List.{List, [], _∷_, List·Memᴰ, List·Memᴰ·head, List·Memᴰ·tail}
 use Prim.Native.Nat.{ℕ, suc, _≤_}
 use native.Mathlib.Omega.{arith}
@@ -12,7 +12,7 @@ use Rattle.format.specs.Meaning.{Sign, signed, unsigned}
 use Rattle.grammar.specs.Meaning.{isSign, Written, number, plainReading, literalReading, prefixRadix, dropUnderscores, afterPrefix, literalMinus, literalBody, literalRadix}
 use Rattle.grammar.specs.Automaton.{Sep, Skip, Error, Part, whole, Seen, nothing, sign, digit, Scan, at, refuse, blank, step, scan, finish, plainScan, literalScan, onSign, onUnderscore, readingOf}
 use Rattle.grammar.specs.Accepted.{finish-at, scan-refuse, number-at}
-use Rattle.grammar.specs.Agrees.{plain-scanned, literal-scanned}
+use Rattle.grammar.specs.Agrees.{or-right, plain-scanned, literal-scanned}
 
 -- ---- `_`: where there is none the readers scan alike
 step-sep : (radix b : ℕ) (p : Part) (q : Seen) (x : Written) → (95 ≡ b → ⊥) → step Skip radix b p q x ≡ step Error radix b p q x
@@ -167,10 +167,6 @@ Opens s t = (literalMinus s t ≡ true) ⊎ (isSign (getD t 0 0) ≡ false)
 literal-body : (s : Sign) (t : List ℕ) → literalRadix s t ≡ 10 → literalScan s t ≡ body-scan Skip 10 (literalBody s t) (literalMinus s t)
 unfolding literalScan
 literal-body s t e = rw e
-
-or-right : (a b : Bool) → (a || b) ≡ false → b ≡ false
-or-right true b h = absurd (true≢false h)
-or-right false b h = h
 
 no-minus : (s : Sign) (t : List ℕ) → isSign (getD t 0 0) ≡ false → literalMinus s t ≡ false
 unfolding literalMinus

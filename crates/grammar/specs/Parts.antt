@@ -1,9 +1,9 @@
 -- The whole part and the fraction: one law for both of what the scan makes of a part and of the byte in front of which its run ends.
 -- Assumes nothing.
 use mathlib.Core.Path.{_≡_, refl, sym, ap, ap₂, _∙_, subst}
-use mathlib.Core.Bool.{Bool, true, false, cond, _&&_, _||_, true≢false, false≢true}
+use mathlib.Core.Bool.{Bool, true, false, cond, _&&_, _||_, true≢false}
 use mathlib.Core.List.{List, [], _∷_, _++_, append-nil}
-use Prim.Native.Nat.{ℕ, zero, suc, _+_, _-_, _≤_, _<_}
+use Prim.Native.Nat.{ℕ, suc, _+_, _-_, _≤_, _<_}
 use native.Mathlib.Nat.{zero-add}
 use native.Mathlib.Omega.{arith}
 use native.Mathlib.Numerals.{add-one}
@@ -12,13 +12,13 @@ use lib.ListN.{length, take, drop, getD, drop-of-length-le, length-map, length-d
 use lib.Seq.{drop-cons, drop-drop, take-add}
 use borrow.Author.Tests.{ne-eqb}
 use Rattle.digits.specs.Meaning.{digitsOf}
-use Rattle.grammar.specs.Meaning.{digitOf, isSign, Written, plainReading, isRadix, Reading, number, unread}
+use Rattle.grammar.specs.Meaning.{digitOf, isSign, Written, plainReading, isRadix, number, unread}
 use Rattle.grammar.specs.Automaton.{isDigit, Scan, at, whole, fraction, nothing, sign, blank, finish, scan, Error, readingOf}
 use Rattle.grammar.specs.Reading.{reading, opened, afterRun, Stopped, read-after, read-point, read-end, signFirst, read-unsigned, read-sign}
 use Rattle.grammar.specs.Run.{valuesOf, values-digit, values-under, both, sepOf, inRun, runMore, runLen, partOf, withDigits, seenAfter, scan-run}
-use Rattle.grammar.specs.Class.{classOf, Plain, digit-plain}
+use Rattle.grammar.specs.Class.{classOf, digit-plain}
 use Rattle.grammar.specs.Agrees.{plain-agrees}
-use Rattle.grammar.specs.Found.{bodyOf, Stretch, more-fits, part, spanOf, runOf, writtenOf, wholeOf, unmarkedOf, Counted, Ready, Finds, finds-by, finds-unmarked, no-sign-at, no-sign-past}
+use Rattle.grammar.specs.Found.{bodyOf, more-fits, part, spanOf, runOf, writtenOf, wholeOf, unmarkedOf, Counted, Ready, Finds, finds-by, finds-unmarked, no-sign-at, no-sign-past}
 use Rattle.grammar.specs.declared.byte.Class.{Class}
 use Rattle.grammar.specs.declared.scan.Run.{Run}
 use Rattle.grammar.specs.declared.scan.Parsed.{Parsed}

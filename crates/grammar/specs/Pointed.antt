@@ -7,11 +7,10 @@ use mathlib.Core.List.{List, [], _∷_, List·Memᴰ, List·Memᴰ·not-nil, Lis
 use Prim.Native.Nat.{ℕ, _+_, _*_, _≤_}
 use native.Mathlib.Omega.{arith}
 use lib.Dec.{leb, eqb}
-use lib.ListN.{length}
 use borrow.Author.Tests.{eqb-true, eqb-false}
 use Rattle.format.specs.Meaning.{Sign, signed, unsigned}
-use Rattle.grammar.specs.Meaning.{isSign, isMark, Written, Reading, number, expLimit, plainReading, literalMinus, literalBody, prefixMark, prefixRadix, dropUnderscores, afterPrefix, literalRadix, literalReading, digitOf}
-use Rattle.grammar.specs.Automaton.{isDigit, baseOf, blank, withExp, Part, whole, fraction, exponent, Seen, nothing, sign, digit, Scan, at, refuse, Sep, Skip, Error, onSign, onPoint, onUnderscore, onMark, onExpDigit, onOther, step, scan, finish, plainScan, literalScan, readingOf}
+use Rattle.grammar.specs.Meaning.{isSign, isMark, Written, number, expLimit, plainReading, literalMinus, literalBody, prefixMark, prefixRadix, dropUnderscores, afterPrefix, literalRadix, literalReading, digitOf}
+use Rattle.grammar.specs.Automaton.{isDigit, baseOf, blank, Part, whole, fraction, exponent, Seen, nothing, sign, digit, Scan, at, refuse, Sep, Skip, Error, onSign, onPoint, onUnderscore, onMark, onExpDigit, onOther, step, scan, finish, plainScan, literalScan, readingOf}
 use Rattle.grammar.specs.Accepted.{by-test, BaseIs, Sound, Ends, ends-sound, finish-at, number-at, plain-ends, literal-ends}
 use Rattle.grammar.specs.Agrees.{plain-scanned, literal-scanned}
 use Rattle.grammar.specs.Literal.{short-prefix, same-either}

@@ -1,18 +1,17 @@
 -- What a scan comes to: a number written, or a refusal; and the laws by which the code's parts follow the scan, one for each byte in
 -- front of which a run of digits can end. Assumes nothing.
-use mathlib.Core.Path.{_≡_, refl, sym, ap, ap₂, _∙_, subst}
-use mathlib.Core.Logic.{_⊎_, inl, inr}
-use mathlib.Core.Bool.{Bool, true, false, cond, _&&_, _||_, not, true≢false, false≢true}
-use mathlib.Core.List.{List, [], _∷_, _++_}
-use Prim.Native.Nat.{ℕ, zero, suc, _+_, _-_, _*_, _≤_, _<_}
+use mathlib.Core.Path.{_≡_, refl, sym, ap, _∙_}
+use mathlib.Core.Bool.{Bool, true, false, cond, _&&_, true≢false}
+use mathlib.Core.List.{List, [], _∷_}
+use Prim.Native.Nat.{ℕ, zero, suc, _+_, _*_, _≤_, _<_}
 use native.Mathlib.Omega.{arith}
-use lib.Dec.{leb, ltb, eqb}
-use lib.ListN.{length, take, drop}
-use borrow.Author.Tests.{eq-eqb, ne-eqb, eqb-true, eqb-false, ltb-true, le-leb, lt-leb, leb-true}
+use lib.Dec.{leb, eqb}
+use lib.ListN.{length}
+use borrow.Author.Tests.{ltb-true, le-leb, lt-leb, leb-true}
 use Rattle.grammar.specs.Meaning.{digitOf, isSign, isMark, Written, Reading, number, unread, expLimit}
 use Rattle.grammar.specs.Automaton.{isDigit, baseOf, Part, whole, fraction, exponent, Seen, nothing, sign, digit, Scan, at, refuse, blank, withBase, withExp, Sep, Skip, Error, onExpDigit, step, scan, ended, finish, onSign, onPoint, onUnderscore, onMark, onOther, readingOf}
-use Rattle.grammar.specs.Class.{classOf, Plain, ten-plain}
-use Rattle.grammar.specs.Run.{sepOf, inRun, runMore, runLen, partOf, seenAfter}
+use Rattle.grammar.specs.Class.{classOf, ten-plain}
+use Rattle.grammar.specs.Run.{sepOf, partOf, seenAfter}
 use Rattle.grammar.specs.declared.scan.ExpStep.{ExpStep}
 use Rattle.grammar.specs.declared.scan.ExpStep.the-variants.{On, Refuse}
 use Rattle.grammar.specs.declared.byte.Class.{Class}

@@ -1,16 +1,15 @@
 -- The raw of a number that is written: it depends on the fraction alone, so not on where the point stands, and not on zeros at the end; and
 -- how far the exponent must go for a number to be past every format, or nothing. Assumes nothing.
-use mathlib.Core.Path.{_≡_, refl, sym, ap, _∙_}
+use mathlib.Core.Path.{_≡_, sym, ap, _∙_}
 use mathlib.Core.Logic.{_⊎_, inl, inr}
 use mathlib.Core.Bool.{Bool, true, false, cond}
-use mathlib.Core.List.{List, [], _∷_, _++_, List·Memᴰ, List·Memᴰ·head, List·Memᴰ·tail}
+use mathlib.Core.List.{[], _∷_, _++_}
 use Prim.Native.Nat.{ℕ, zero, suc, _+_, _-_, _*_, _^_, _≤_, _<_}
 use native.Mathlib.Nat.{mul-pos, one-le-pow, pow-le-pow-left, mul-le-mul, pow-suc, mul-le-mul-left, mul-le-mul-right, pow-zero}
 use native.Mathlib.Numerals.{add-one}
 use native.Mathlib.Omega.{arith}
 use lib.Pow.{pow-pos, pow-mono, pow-add}
-use lib.IntN.{ℤ, pos, _+ℤ_, _*ℤ_}
-use lib.ListN.{length}
+use lib.IntN.{pos, _+ℤ_, _*ℤ_}
 use Rattle.laws.specs.Diff.{up, dn, add-out}
 use Rattle.laws.specs.Order.{mul-out}
 use Rattle.laws.specs.Signed.{signed as kit}
@@ -20,12 +19,9 @@ use Rattle.format.specs.Meaning.{Sign, wrap, settle, withSign, done, refused}
 use Rattle.format.specs.Theorems.{lowest-out, highest-out, wrap-only}
 use Rattle.format.specs.Place.{sign-out}
 use Rattle.format.specs.Far.{far-unfit}
-use Rattle.grammar.specs.Meaning.{Written, natFrom, num, den, rawOf}
+use Rattle.grammar.specs.Meaning.{Written, num, den, rawOf}
 use Rattle.grammar.specs.Automaton.{withDigit}
-
--- the digits as a number
-abbrev pub natOf : ℕ → List ℕ → ℕ
-natOf radix ds = natFrom radix ds 0
+use Rattle.grammar.specs.Naturals.{natOf, natFrom-snoc}
 
 -- ---- the fraction decides
 pub den-pos : (radix : ℕ) (x : Written) → 0 < radix → 0 < x .base → 0 < den radix x
@@ -41,11 +37,6 @@ unfolding rawOf
 same-fraction r₁ r₂ f x y g h e = nearest-same (num r₁ x * 2 ^ f) (den r₁ x) (num r₂ y * 2 ^ f) (den r₂ y) g h (omega (arith, ap (λ (m : ℕ). m * 2 ^ f) e))
 
 -- ---- a zero more after the point: the digits and radix^after are both multiplied by the radix
-pub natFrom-snoc : (radix : ℕ) (ds : List ℕ) (d n : ℕ) → natFrom radix (ds ++ (d ∷ [])) n ≡ natFrom radix ds n * radix + d
-unfolding natFrom
-natFrom-snoc radix [] d n = refl
-natFrom-snoc radix (c ∷ ds) d n = natFrom-snoc radix ds d (n * radix + c)
-
 pub zero-more : (radix f : ℕ) (x : Written) → 0 < radix → 0 < x .base → rawOf radix f (withDigit x 0 1) ≡ rawOf radix f x
 unfolding num den
 zero-more radix f x r b =
@@ -181,16 +172,3 @@ huge-wraps s w radix h f x some k e b t l =
     let exact : nearestEven (natOf radix (x .digits) * radix ^ x .exp * 2 ^ f) (places * 1) ≡ c * 2 ^ w =
     ap (λ (n : ℕ). nearestEven n (places * 1)) whole ∙ nearest-exact (c * 2 ^ w) (places * 1) (mul-pos (one-le-pow (x .after) radix (omega arith)) (omega arith)) in
     rw (t, b, exact, whole-turns s w c (x .neg) some)
-
--- ---- n digits of the radix are a number below radix^n
-natFrom-below : (radix : ℕ) (ds : List ℕ) (n : ℕ) → ((d : ℕ) → List·Memᴰ d ds → d < radix) → natFrom radix ds n < suc n * radix ^ length ds
-unfolding natFrom
-natFrom-below radix [] n h = rw pow-zero (omega arith)
-natFrom-below radix (d ∷ ds) n h =
-    let rest = natFrom-below radix ds (n * radix + d) (λ c m. h c (List·Memᴰ·tail m)) in
-    let one : d < radix = h d (List·Memᴰ·head refl) in
-    let more : suc (n * radix + d) * radix ^ length ds ≤ suc n * radix * radix ^ length ds = mul-le-mul-right (radix ^ length ds) (omega arith) in
-    rw pow-suc (omega arith)
-
-pub natOf-below : (radix : ℕ) (ds : List ℕ) → ((d : ℕ) → List·Memᴰ d ds → d < radix) → natOf radix ds < radix ^ length ds
-natOf-below radix ds h = omega (arith, natFrom-below radix ds 0 h)

@@ -1,19 +1,18 @@
 -- A run of digits, and what the scan makes of it: it takes the whole run in one go. Before the mark there are two parts, told apart
 -- by a Bool: false for the whole part, true for the fraction. Assumes nothing.
-use mathlib.Core.Path.{_≡_, refl, sym, ap, ap₂, _∙_, subst}
-use mathlib.Core.Bool.{Bool, true, false, cond, _&&_, _||_, not, true≢false, false≢true}
+use mathlib.Core.Path.{_≡_, refl, sym, ap, _∙_}
+use mathlib.Core.Bool.{Bool, true, false, cond, _&&_, _||_, false≢true}
 use mathlib.Core.List.{List, [], _∷_, _++_, map, append-assoc, append-nil}
-use Prim.Native.Nat.{ℕ, zero, suc, _+_, _-_, _≤_, _<_}
-use native.Mathlib.Nat.{add-zero, zero-add}
+use Prim.Native.Nat.{ℕ, zero, suc, _+_}
+use native.Mathlib.Nat.{add-zero}
 use native.Mathlib.Omega.{arith}
-use native.Mathlib.Numerals.{add-one}
-use lib.Dec.{leb, ltb, eqb}
-use lib.ListN.{length, take, drop, getD}
-use borrow.Author.Tests.{ltb-true, ltb-false, eqb-true, eqb-false, ne-eqb, eq-eqb, leb-true}
+use lib.Dec.{eqb}
+use lib.ListN.{length, take, drop}
+use borrow.Author.Tests.{eqb-true}
 use Rattle.digits.specs.Meaning.{digitsOf, isUnd}
-use Rattle.grammar.specs.Meaning.{digitOf, isSign, isMark, Written, isRadix}
-use Rattle.grammar.specs.Automaton.{isDigit, Part, whole, fraction, exponent, Seen, nothing, sign, digit, Scan, at, refuse, withDigit, Sep, Skip, Error, step, scan, onOther, onUnderscore}
-use Rattle.grammar.specs.Class.{Plain, digit-plain}
+use Rattle.grammar.specs.Meaning.{digitOf, Written, isRadix}
+use Rattle.grammar.specs.Automaton.{isDigit, Part, whole, fraction, Seen, digit, at, withDigit, Sep, Skip, Error, step, scan, onOther, onUnderscore}
+use Rattle.grammar.specs.Class.{digit-plain}
 
 -- the digits of a run, as numbers
 unfoldable pub valuesOf : List ℕ → List ℕ

@@ -6,3 +6,6 @@ use lib.Pow.{pow-add}
 
 pub power-sub : (i j : ℕ) → i ≤ j → 2 ^ j ≡ 2 ^ (j - i) * 2 ^ i
 power-sub i j h = let e : j ≡ (j - i) + i = omega arith in ap (λ (k : ℕ). 2 ^ k) e ∙ pow-add 2 (j - i) i
+
+pub double : (i : ℕ) → 1 ≤ i → 2 ^ i ≡ 2 ^ (i - 1) * 2
+double i h = power-sub 1 i h

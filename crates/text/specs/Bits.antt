@@ -11,15 +11,14 @@ use lib.ListN.{length, take}
 use lib.Seq.{take-all}
 use lib.Pow.{pow-add, pow-pos}
 use Rattle.laws.specs.Nearest.{nearestEven, nearest-exact, nearest-scale}
+use Rattle.laws.specs.Powers.{power-sub}
 use Rattle.grammar.specs.Meaning.{num, den, rawOf, textLimit}
-use Rattle.grammar.specs.Rounding.{natOf}
+use Rattle.grammar.specs.Naturals.{natOf}
 use Rattle.text.specs.declared.fold.Folded.{Folded}
-use Rattle.text.specs.declared.fold.Order.{Order}
 use Rattle.text.specs.Fold.{foldOf, valueOf, fold-times}
 use Rattle.grammar.specs.Found.{bodyOf}
-use Rattle.text.specs.Body.{asWritten, Taken}
-use Rattle.text.specs.Cut.{numberOf, Digits, pow-pow, parts}
-use Rattle.text.specs.Numbers.{body-short}
+use Rattle.text.specs.Body.{asWritten, Taken, body-length}
+use Rattle.text.specs.Cut.{numberOf, Digits, pow-pow}
 
 -- what a radix is here, and what an exponent scales by
 abbrev pub Power : ℕ → Type 0
@@ -42,8 +41,7 @@ module _ (t : List ℕ) (n width up down : ℕ) (digits : Digits t n width) wher
   whole-done {x} {r} {at} h all e =
       let number = numberOf t width in
       let every : take n (bodyOf t) ≡ bodyOf t = take-all n (bodyOf t) (omega (arith, digits .count)) in
-      let split : 2 ^ up ≡ 2 ^ (up - down) * 2 ^ down = parts (up - down) down up (omega arith) in
-      let exact : number * 2 ^ up ≡ number * 2 ^ (up - down) * 2 ^ down = omega (arith, ap (λ (k : ℕ). number * k) split) in
+      let exact : number * 2 ^ up ≡ number * 2 ^ (up - down) * 2 ^ down = omega (arith, ap (λ (k : ℕ). number * k) (power-sub down up h)) in
       e
       ∙ ap (λ (z : Folded). foldOf (valueOf z * 2 ^ (up - down))) (all .folded ∙ ap (λ (l : List ℕ). foldOf (natOf (2 ^ width) l)) every)
       ∙ fold-times number (2 ^ (up - down)) (pow-pos (up - down))
@@ -51,8 +49,8 @@ module _ (t : List ℕ) (n width up down : ℕ) (digits : Digits t n width) wher
 
   pub part-done : {r : Folded} → up < down → r ≡ foldOf (nearestEven (numberOf t width) (2 ^ (down - up))) → r ≡ foldOf (nearestEven (numberOf t width * 2 ^ up) (2 ^ down))
   part-done h e =
-      let split : 2 ^ down ≡ 2 ^ (down - up) * 2 ^ up = parts (down - up) up down (omega arith) in
-      e ∙ ap foldOf (sym (ap (nearestEven (numberOf t width * 2 ^ up)) split ∙ nearest-scale (numberOf t width) (2 ^ (down - up)) (2 ^ up) (pow-pos (down - up)) (pow-pos up)))
+      let scaled = nearest-scale (numberOf t width) (2 ^ (down - up)) (2 ^ up) (pow-pos (down - up)) (pow-pos up) in
+      e ∙ ap foldOf (sym (ap (nearestEven (numberOf t width * 2 ^ up)) (power-sub up down (omega arith)) ∙ scaled))
 
 -- ---- the raw: what the exponent scales by is a power of two as well
 module _ (t : List ℕ) (after radix base exp f width bits : ℕ) (r : radix ≡ 2 ^ width) (b : base ≡ 2 ^ bits) where
@@ -121,7 +119,7 @@ module _ {t : List ℕ} {n after radix base exp frac : ℕ} (legal : Legal t n a
   -- no sum of bits comes near a word
   pub places-small : {width : ℕ} → width ≤ 4 → width * after ≤ 4 * textLimit
   places-small h =
-      let few : after ≤ textLimit = omega (arith, legal .within, legal .count, legal .short, body-short t) in
+      let few : after ≤ textLimit = omega (arith, legal .within, legal .count, legal .short, body-length t) in
       mul-le-mul h few
 
   pub step-small : {bits : ℕ} → bits ≤ 4 → bits * exp ≤ 4 * 2 ^ 31

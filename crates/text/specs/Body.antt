@@ -10,9 +10,8 @@ use lib.ListN.{length, take, drop, getD, drop-of-length-le}
 use lib.Seq.{drop-cons, take-suc, getD-drop, drop-drop}
 use borrow.Author.Tests.{eq-eqb, ne-eqb, ltb-true, ltb-false}
 use Rattle.grammar.specs.Meaning.{Written, digitOf, natFrom}
-use Rattle.grammar.specs.Rounding.{natOf}
+use Rattle.grammar.specs.Naturals.{natOf, natFrom-snoc}
 use Rattle.grammar.specs.Found.{bodyOf}
-use Rattle.grammar.specs.Rounding.{natFrom-snoc}
 use Rattle.text.specs.declared.fold.Folded.{Folded}
 use Rattle.text.specs.Fold.{foldOf, valueOf, fold-step}
 
@@ -28,6 +27,16 @@ digitsFrom t i = bodyOf (drop i t)
 unfoldable pub anyOf : List ℕ → Bool
 anyOf [] = false
 anyOf (d ∷ ds) = cond (eqb d 0) (anyOf ds) true
+
+-- there are no more digits than bytes
+pub body-length : (t : List ℕ) → length (bodyOf t) ≤ length t
+unfolding bodyOf
+body-length [] = omega arith
+body-length (b ∷ t) = go (isGap b) (body-length t)
+  where
+    go : (g : Bool) → length (bodyOf t) ≤ length t → length (cond g (bodyOf t) (digitOf b ∷ bodyOf t)) ≤ length (b ∷ t)
+    go true h = omega arith
+    go false h = omega arith
 
 -- ---- one byte of the loops
 module _ (t : List ℕ) (i : ℕ) where

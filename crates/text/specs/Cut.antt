@@ -13,8 +13,8 @@ use lib.Seq.{getD-drop, drop-drop}
 use lib.Pow.{pow-add, pow-pos, pow-mono}
 use borrow.Author.Tests.{ltb-true, ltb-false}
 use Rattle.laws.specs.Nearest.{nearestEven, nearest-none}
-use Rattle.grammar.specs.Rounding.{natOf}
-use Rattle.grammar.specs.Rounding.{natOf-below}
+use Rattle.laws.specs.Powers.{power-sub, double}
+use Rattle.grammar.specs.Naturals.{natOf, natOf-below}
 use Rattle.text.specs.declared.fold.Folded.{Folded}
 use Rattle.text.specs.declared.fold.Order.{Order}
 use Rattle.text.specs.declared.fold.Order.the-variants.{Less, Same, More}
@@ -73,12 +73,6 @@ pow-pow b zero = let none : 0 ≡ b * 0 = omega arith in pow-zero (2 ^ b) ∙ ap
 pow-pow b (suc k) =
     pow-suc (2 ^ b) k ∙ ap (λ (n : ℕ). n * 2 ^ b) (pow-pow b k) ∙ sym (pow-add 2 (b * k) b) ∙ ap (λ (n : ℕ). 2 ^ n) (omega arith)
 
-halves : (c : ℕ) → 1 ≤ c → 2 ^ c ≡ 2 ^ (c - 1) * 2
-halves c h = ap (λ (n : ℕ). 2 ^ n) (omega arith) ∙ pow-suc 2 (c - 1)
-
-pub parts : (a b c : ℕ) → a + b ≡ c → 2 ^ c ≡ 2 ^ a * 2 ^ b
-parts a b c e = ap (λ (n : ℕ). 2 ^ n) (sym e) ∙ pow-add 2 a b
-
 -- ---- the cut in the digit number `count`, with c of its bits behind it: the digits in front of that digit, the digit, and those behind it
 abbrev pub digitAt : List ℕ → ℕ → ℕ
 digitAt t count = getD (bodyOf t) count 0
@@ -99,9 +93,9 @@ module _ (t : List ℕ) (n width count c : ℕ) (digits : Digits t n width) (ins
   number-is =
       let f = front t width count in
       let d = digitAt t count in
-      let split : 2 ^ width ≡ 2 ^ (width - c) * 2 ^ c = parts (width - c) c width (omega arith) in
       let left : length (bodyOf t) - count - 1 ≡ n - count - 1 = omega (arith, digits .count) in
-      let here : f * 2 ^ width + d ≡ (f * 2 ^ (width - c) + d / 2 ^ c) * 2 ^ c + d % 2 ^ c = omega (arith, ap (λ (k : ℕ). f * k) split, div-add-mod' d (2 ^ c)) in
+      let here : f * 2 ^ width + d ≡ (f * 2 ^ (width - c) + d / 2 ^ c) * 2 ^ c + d % 2 ^ c =
+      omega (arith, ap (λ (k : ℕ). f * k) (power-sub c width most), div-add-mod' d (2 ^ c)) in
       nat-around (2 ^ width) (bodyOf t) count (omega (arith, digits .count))
       ∙ ap (λ (p : ℕ). (f * 2 ^ width + d) * p + behind t width count) (pow-pow width (length (bodyOf t) - count - 1) ∙ ap (λ (k : ℕ). 2 ^ (width * k)) left)
       ∙ ap (λ (m : ℕ). m * 2 ^ (width * (n - count - 1)) + behind t width count) here
@@ -117,7 +111,7 @@ module _ (t : List ℕ) (n width count c : ℕ) (digits : Digits t n width) (ins
   cut-is {any} e =
       ap₂ nearestEven number-is (pow-add 2 (width * (n - count - 1)) c)
       ∙ cut-nearest (cutWhole t width count c) (digitAt t count % 2 ^ c) (behind t width count) (2 ^ c) (2 ^ (width * (n - count - 1))) (2 ^ (c - 1))
-      (halves c one) (mod-lt (digitAt t count) (pow-pos c)) behind-lt
+      (double c one) (mod-lt (digitAt t count) (pow-pos c)) behind-lt
       (λ a. any-some (2 ^ width) (drop (suc count) (bodyOf t)) (pow-pos width) (sym e ∙ a))
       (λ a. any-none (2 ^ width) (drop (suc count) (bodyOf t)) (sym e ∙ a))
 

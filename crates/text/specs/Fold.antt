@@ -8,8 +8,9 @@ use native.Mathlib.Decide.{decLe}
 use native.Mathlib.Omega.{arith}
 use lib.Arith.{digits-lt}
 use lib.Dec.{leb, ltb}
-use lib.Pow.{pow-add, pow-pos, pow-mono}
+use lib.Pow.{pow-pos, pow-mono}
 use borrow.Author.Tests.{le-leb, lt-leb, lt-ltb, le-ltb}
+use Rattle.laws.specs.Powers.{power-sub}
 use Rattle.text.specs.declared.fold.Folded.{Folded}
 use Rattle.text.specs.declared.fold.Order.{Order}
 use Rattle.text.specs.declared.fold.Order.the-variants.{Less, Same, More}
@@ -76,9 +77,7 @@ bit-fits k h = (h, omega (arith, pow-mono {i = suc k} {j = 64} h, pow-suc 2 k, p
 
 -- past 64 places only whether it is 0 is left
 far-words : (v k : ℕ) → 64 ≤ k → v * 2 ^ k ≡ v * 2 ^ (k - 64) * 2 ^ 64 + 0
-far-words v k far =
-    let e : 2 ^ k ≡ 2 ^ (k - 64) * 2 ^ 64 = ap (λ (n : ℕ). 2 ^ n) (omega arith) ∙ pow-add 2 (k - 64) 64 in
-    omega (arith, ap (λ (n : ℕ). v * n) e)
+far-words v k far = omega (arith, ap (λ (n : ℕ). v * n) (power-sub 64 k far))
 
 module _ (x : Folded) (k : ℕ) (far : 64 ≤ k) where
   pub scale-over : {r : Folded} → r .low ≡ 0 → x .over ≡ true → r .over ≡ true → r ≡ foldOf (valueOf x * 2 ^ k)

@@ -2,34 +2,24 @@
 use mathlib.Core.Path.{_≡_, refl, sym, ap, ap₂, _∙_, subst}
 use mathlib.Core.Logic.{_⊎_, inl, inr}
 use mathlib.Core.Bool.{Bool, true, false, cond, _||_, false≢true}
-use mathlib.Core.List.{List, [], _∷_, _++_, List·Memᴰ}
-use Prim.Native.Nat.{ℕ, suc, _+_, _-_, _*_, _^_, _≤_, _<_, min}
+use mathlib.Core.List.{List, List·Memᴰ}
+use Prim.Native.Nat.{ℕ, _+_, _-_, _*_, _^_, _≤_, _<_}
 use native.Mathlib.Nat.{pow-zero}
 use native.Mathlib.Omega.{arith}
 use lib.Dec.{eqb}
-use lib.ListN.{length, take, drop, length-append, length-take, length-drop}
+use lib.ListN.{length, drop, length-append, length-take, length-drop}
 use borrow.Author.Tests.{eqb-true}
 use Rattle.laws.specs.Nearest.{nearestEven}
-use Rattle.grammar.specs.Meaning.{digitOf, Written, expLimit, num, den, rawOf, isRadix, textLimit}
+use Rattle.grammar.specs.Meaning.{expLimit, num, den, rawOf, isRadix, textLimit}
 use Rattle.grammar.specs.Automaton.{Part, whole, fraction, exponent}
-use Rattle.grammar.specs.Rounding.{natOf}
-use Rattle.grammar.specs.Accepted.{Sound, TenIs, sound-exp, sound-bases}
-use Rattle.grammar.specs.Found.{bodyOf, part, spanOf, writtenOf, Ready}
+use Rattle.grammar.specs.Naturals.{natOf}
+use Rattle.grammar.specs.Accepted.{TenIs, sound-exp, sound-bases}
+use Rattle.grammar.specs.Found.{bodyOf, part, spanOf, writtenOf}
 use Rattle.grammar.specs.declared.scan.Parsed.{Parsed}
-use Rattle.text.specs.Body.{asWritten}
+use Rattle.text.specs.Body.{asWritten, body-length}
 use Rattle.text.specs.Bits.{Legal}
 use Rattle.text.specs.Point.{decimal}
 use Rattle.text.specs.Read.{Readable}
-
--- there are no more digits than bytes
-body-length : (t : List ℕ) → length (bodyOf t) ≤ length t
-unfolding bodyOf
-body-length [] = omega arith
-body-length (b ∷ t) = go (eqb b 95 || eqb b 46) (body-length t)
-  where
-    go : (g : Bool) → length (bodyOf t) ≤ length t → length (cond g (bodyOf t) (digitOf b ∷ bodyOf t)) ≤ length (b ∷ t)
-    go true h = omega arith
-    go false h = omega arith
 
 radix-bits : (radix : ℕ) → isRadix radix ≡ true → (radix ≡ 10 → ⊥) → (radix ≡ 2) ⊎ (radix ≡ 8) ⊎ (radix ≡ 16)
 unfolding isRadix

@@ -4,18 +4,18 @@ use mathlib.Core.Path.{_≡_, refl, sym, ap, ap₂, _∙_}
 use mathlib.Core.Bool.{Bool, true, false, cond}
 use mathlib.Core.List.{List, [], _∷_, _++_}
 use Prim.Native.Nat.{ℕ, zero, suc, _+_, _-_, _*_, _/_, _%_, _^_, _≤_, _<_}
-use native.Mathlib.Nat.{div-add-mod', mod-lt, mul-le-mul-right, mul-lt-mul-of-pos-right, pow-zero, pow-suc, le-of-lt, mul-div-cancel-left, div-eq-of-lt, mod-eq-of-lt, le-div-iff-mul-le, lt-of-lt-of-le}
+use native.Mathlib.Nat.{div-add-mod', mod-lt, mul-le-mul-right, mul-lt-mul-of-pos-right, pow-suc, mul-div-cancel-left, div-eq-of-lt, mod-eq-of-lt, le-div-iff-mul-le, lt-of-lt-of-le}
 use native.Mathlib.Omega.{arith}
 use lib.Dec.{ltb, eqb}
 use lib.ListN.{length, replicate}
 use lib.Pow.{pow-add, pow-mono, shl-exact}
 use borrow.Author.Tests.{ltb-true, ltb-false, lt-ltb, le-ltb, eqb-true, eqb-false, ne-eqb}
 use Rattle.grammar.specs.Meaning.{natFrom}
-use Rattle.grammar.specs.Rounding.{natOf}
+use Rattle.grammar.specs.Naturals.{natOf, natOf-cons}
 use Rattle.text.specs.declared.fold.Order.{Order}
 use Rattle.text.specs.declared.fold.Order.the-variants.{Less, Same, More}
 use Rattle.text.specs.Round.{orderOf, order-less, order-more, order-same}
-use Rattle.text.specs.Digits.{Small, nat-cons, nat-below}
+use Rattle.text.specs.Digits.{Small, nat-below}
 
 -- the three cases, for what depends on the order
 pub order-cases : (A : Order → Type 0) (a b : ℕ) → (a < b → A Less) → (a ≡ b → A Same) → (b < a → A More) → A (orderOf a b)
@@ -80,7 +80,7 @@ order-ten [] t m h s = go (eqb t 0) refl
 order-ten (d ∷ ds) t m h s =
     one-digit d (natOf 10 ds) (10 ^ length ds) (t / m) (t % m) m (mod-lt t h) (nat-below ds (s .1)) h (order-ten ds (t % m * 10) m h (s .1))
     ∙ ap₂ orderOf
-    (ap (λ (x : ℕ). x * m * 10) (sym (nat-cons d ds)))
+    (ap (λ (x : ℕ). x * m * 10) (sym (natOf-cons 10 d ds)))
     (ap₂ (λ (x y : ℕ). x * y) (div-add-mod' t m) (sym (pow-suc 10 (length ds))))
 
 -- ---- zeros in front: each takes ten times the rest, and from ten times m on every digit is less

@@ -1,18 +1,16 @@
 -- Where the point of a decimal number stands once the exponent has moved it: all digits whole and zeros after them, some whole and some after the
 -- point, or zeros between the point and the digits. Assumes nothing.
-use mathlib.Core.Path.{_≡_, refl, sym, ap, _∙_}
+use mathlib.Core.Path.{_≡_, sym, ap, _∙_}
 use mathlib.Core.Bool.{Bool, true, false}
-use mathlib.Core.List.{List, [], _∷_, _++_}
-use Prim.Native.Nat.{ℕ, zero, suc, _+_, _-_, _*_, _^_, _≤_, _<_}
+use mathlib.Core.List.{List}
+use Prim.Native.Nat.{ℕ, _+_, _-_, _*_, _^_, _≤_, _<_}
 use native.Mathlib.Nat.{one-le-pow}
 use native.Mathlib.Omega.{arith}
 use lib.ListN.{length, take, drop, length-drop, take-append-drop}
 use lib.Pow.{pow-add}
 use Rattle.laws.specs.Nearest.{nearestEven, nearest-same, nearest-exact}
 use Rattle.grammar.specs.Meaning.{Written, num, den, rawOf}
-use Rattle.grammar.specs.Rounding.{natOf}
-use Rattle.grammar.specs.Rounding.{ByRadix, upward, downward, same-place}
-use Rattle.text.specs.Digits.{nat-append}
+use Rattle.grammar.specs.Naturals.{natOf, natOf-append}
 
 -- a decimal number: its exponent scales by ten
 abbrev pub decimal : List ℕ → ℕ → Bool → ℕ → Written
@@ -47,7 +45,7 @@ module _ (f : ℕ) (ds : List ℕ) (after e : ℕ) where
 -- the last p digits after the point
 pub point-split : (ds : List ℕ) (p : ℕ) → p ≤ length ds
     → natOf 10 ds ≡ natOf 10 (take (length ds - p) ds) * 10 ^ length (drop (length ds - p) ds) + natOf 10 (drop (length ds - p) ds)
-point-split ds p h = ap (natOf 10) (sym (take-append-drop (length ds - p) ds)) ∙ nat-append (take (length ds - p) ds) (drop (length ds - p) ds)
+point-split ds p h = ap (natOf 10) (sym (take-append-drop (length ds - p) ds)) ∙ natOf-append 10 (take (length ds - p) ds) (drop (length ds - p) ds)
 
 pub point-length : (ds : List ℕ) (p : ℕ) → p ≤ length ds → length (drop (length ds - p) ds) ≡ p
 point-length ds p h = rw length-drop (omega arith)

@@ -4,16 +4,16 @@ use mathlib.Core.Path.{_≡_, refl, sym, ap, _∙_}
 use mathlib.Core.List.{List, [], _∷_, _++_}
 use Prim.Native.Nat.{ℕ, zero, suc, _+_, _-_, _*_, _/_, _%_, _^_, _≤_, _<_}
 use native.Mathlib.Nat.{div-add-mod', mod-lt, mul-le-mul-right, mul-lt-mul-of-pos-right, pow-zero, pow-suc, div-div-eq-div-mul, mul-div-mul-right, one-le-pow, div-lt-iff-lt-mul, zero-add, lt-of-lt-of-le}
-use native.Mathlib.Numerals.{add-one}
 use native.Mathlib.Omega.{arith}
 use lib.Dec.{lit<}
 use lib.ListN.{length, drop, replicate}
 use lib.Pow.{pow-pos, pow-mono, pow-add, shl-exact}
 use Rattle.laws.specs.Nearest.{nearestEven, nearest-none}
+use Rattle.laws.specs.Powers.{power-sub}
 use Rattle.grammar.specs.Meaning.{natFrom}
-use Rattle.grammar.specs.Rounding.{natOf}
+use Rattle.grammar.specs.Naturals.{natOf, natFrom-shift}
 use Rattle.text.specs.declared.fold.Order.{Order}
-use Rattle.text.specs.Digits.{Small, nat-shift, nat-below}
+use Rattle.text.specs.Digits.{Small, nat-below}
 use Rattle.text.specs.Order.{order-scale, orderTen, order-ten}
 use Rattle.text.specs.Round.{orderOf, roundBy}
 use Rattle.text.specs.Middle.{middle-beside}
@@ -30,13 +30,13 @@ leadOf k ds = leadFrom k ds 0
 -- ---- they are the fraction cut after k places
 pub lead-low : (k : ℕ) (ds : List ℕ) (v : ℕ) → leadFrom k ds v * 10 ^ length ds ≤ natFrom 10 ds v * 10 ^ k
 unfolding leadFrom natFrom
-lead-low zero ds v = rw pow-zero (omega (arith, nat-shift ds v))
+lead-low zero ds v = rw pow-zero (omega (arith, natFrom-shift 10 ds v))
 lead-low (suc k) [] v = rw pow-suc (omega (arith, lead-low k [] (v * 10)))
 lead-low (suc k) (d ∷ ds) v = rw (pow-suc 10 (length ds), pow-suc 10 k) (omega (arith, lead-low k ds (v * 10 + d)))
 
 pub lead-high : (k : ℕ) (ds : List ℕ) (v : ℕ) → Small ds → natFrom 10 ds v * 10 ^ k < suc (leadFrom k ds v) * 10 ^ length ds
 unfolding leadFrom natFrom
-lead-high zero ds v s = rw pow-zero (omega (arith, nat-shift ds v, nat-below ds s))
+lead-high zero ds v s = rw pow-zero (omega (arith, natFrom-shift 10 ds v, nat-below ds s))
 lead-high (suc k) [] v s = rw pow-suc (omega (arith, lead-high k [] (v * 10) tt))
 lead-high (suc k) (d ∷ ds) v s = rw (pow-suc 10 (length ds), pow-suc 10 k) (omega (arith, lead-high k ds (v * 10 + d) (s .1)))
 
@@ -95,15 +95,13 @@ divisor = 14901161193847656250
 pub first-up : (f val : ℕ) → 26 ≤ f → val * 2 ^ (f - 26) / divisor ≡ firstRaw f val
 unfolding firstRaw
 first-up f val h =
-    let split : 2 ^ f ≡ 2 ^ (f - 26) * 2 ^ 26 = ap (λ (i : ℕ). 2 ^ i) (omega arith) ∙ pow-add 2 (f - 26) 26 in
-    sym (mul-div-mul-right {m = 2 ^ 26} (val * 2 ^ (f - 26)) divisor (lit< tt)) ∙ ap (λ (n : ℕ). n / 10 ^ 27) (omega (arith, ap (λ (y : ℕ). val * y) split))
+    sym (mul-div-mul-right {m = 2 ^ 26} (val * 2 ^ (f - 26)) divisor (lit< tt))
+    ∙ ap (λ (n : ℕ). n / 10 ^ 27) (omega (arith, ap (λ (y : ℕ). val * y) (power-sub 26 f h)))
 
 pub first-down : (f val : ℕ) → f < 26 → val / 2 ^ (26 - f) / divisor ≡ firstRaw f val
 unfolding firstRaw
 first-down f val h =
-    let i : 26 ≡ 26 - f + f = omega arith in
-    let split : 2 ^ 26 ≡ 2 ^ (26 - f) * 2 ^ f = ap (λ (i : ℕ). 2 ^ i) i ∙ pow-add 2 (26 - f) f in
-    let whole : 2 ^ (26 - f) * divisor * 2 ^ f ≡ 10 ^ 27 = omega (arith, ap (λ (y : ℕ). y * divisor) split) in
+    let whole : 2 ^ (26 - f) * divisor * 2 ^ f ≡ 10 ^ 27 = omega (arith, ap (λ (y : ℕ). y * divisor) (power-sub f 26 (omega arith))) in
     div-div-eq-div-mul val (2 ^ (26 - f)) divisor
     ∙ sym (mul-div-mul-right {m = 2 ^ f} val (2 ^ (26 - f) * divisor) (pow-pos f))
     ∙ ap (λ (n : ℕ). val * 2 ^ f / n) whole
@@ -159,9 +157,7 @@ module _ (ds : List ℕ) (small : Small ds) (f : ℕ) (few : f ≤ 64) where
   first-middle =
       let q = first in
       let unit = 2 ^ (64 - f) * 5 in
-      let i : 64 ≡ f + (64 - f) = omega arith in
-      let split : 2 ^ 64 ≡ 2 ^ f * 2 ^ (64 - f) = ap (λ (i : ℕ). 2 ^ i) i ∙ pow-add 2 f (64 - f) in
-      let left : natOf 10 ds * 2 ^ 64 * 10 ≡ natOf 10 ds * 2 ^ f * 2 * unit = omega (arith, ap (λ (y : ℕ). natOf 10 ds * y) split) in
+      let left : natOf 10 ds * 2 ^ 64 * 10 ≡ natOf 10 ds * 2 ^ f * 2 * unit = omega (arith, ap (λ (y : ℕ). natOf 10 ds * y) (power-sub f 64 few)) in
       let right : (q * 10 + 5) * 2 ^ (64 - f) * 10 ^ length ds ≡ (q * 2 + 1) * 10 ^ length ds * unit = omega arith in
       order-ten ds ((q * 10 + 5) * 2 ^ (64 - f)) (2 ^ 64) (lit< tt) small
       ∙ ap (λ (x : ℕ). orderOf x ((q * 10 + 5) * 2 ^ (64 - f) * 10 ^ length ds)) left

@@ -1,26 +1,25 @@
 -- From what the scanner finds to the reader's outcome: the early refusals, the number's places handed on, and that the result is the
 -- meaning's. Assumes nothing.
 use mathlib.Core.Path.{_≡_, refl, sym, ap, _∙_, subst}
-use mathlib.Core.Logic.{_⊎_, inl, inr}
 use mathlib.Core.Bool.{Bool, true, false, cond}
-use mathlib.Core.List.{List, [], _∷_, _++_, List·Memᴰ}
-use Prim.Native.Nat.{ℕ, _+_, _-_, _*_, _^_, _≤_, _<_}
+use mathlib.Core.List.{List}
+use Prim.Native.Nat.{ℕ, _+_, _*_, _^_, _≤_}
 use native.Mathlib.Omega.{arith}
 use lib.Dec.{leb, eqb}
-use lib.ListN.{length, length-append}
+use lib.ListN.{length}
 use borrow.Author.Tests.{leb-true, eqb-true, eqb-false, eq-eqb, ne-eqb}
 use Rattle.format.specs.declared.Manner.{Manner}
 use Rattle.format.specs.declared.Manner.the-variants.{Strict}
-use Rattle.format.specs.Meaning.{Sign, signed, unsigned, Outcome, refused, unless, faultOf, isWidth, settle, withSign, exact}
+use Rattle.format.specs.Meaning.{Sign, Outcome, refused, unless, faultOf, isWidth, settle, withSign, exact}
 use Rattle.format.specs.Fault.{fault-free, width-bounds}
 use Rattle.format.specs.Settle.{unless-fault, unless-none}
-use Rattle.grammar.specs.Meaning.{Written, Reading, number, unread, plainReading, literalBody, literalRadix, literalReading, num, den, rawOf, outcomeOf, isRadix, textLimit, readOf, literalOf}
+use Rattle.grammar.specs.Meaning.{Reading, plainReading, literalBody, literalRadix, literalReading, rawOf, outcomeOf, isRadix, textLimit, readOf, literalOf}
 use Rattle.grammar.specs.Automaton.{Part, Seen}
-use Rattle.grammar.specs.Accepted.{Sound, Numbered, Says, says-numbered, prefix-legal}
+use Rattle.grammar.specs.Accepted.{Sound, Says, says-numbered, prefix-legal}
 use Rattle.grammar.specs.Agrees.{plain-says, literal-says}
 use Rattle.grammar.specs.Literal.{FindsLiteral}
 use Rattle.grammar.specs.declared.literal.Written.{Written as LiteralWritten}
-use Rattle.grammar.specs.Found.{bodyOf, part, spanOf, writtenOf, Ready, Finds, finds, refuses}
+use Rattle.grammar.specs.Found.{writtenOf, Ready, Finds, finds, refuses}
 use Rattle.text.specs.declared.fold.Folded.{Folded}
 use Rattle.text.specs.Fold.{foldOf, valueOf, bit}
 use Rattle.text.specs.Theorems.{settle-folded}

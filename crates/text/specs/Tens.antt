@@ -1,18 +1,19 @@
 -- The parts of a decimal number, folded: zeros after the digits, a fraction beside a whole number, and the digits cut at the point. Assumes nothing.
 use mathlib.Core.Path.{_≡_, refl, sym, ap, ap₂, _∙_, subst}
-use mathlib.Core.Bool.{Bool, true, false, cond}
-use mathlib.Core.List.{List, [], _∷_, _++_}
+use mathlib.Core.Bool.{Bool, true, false}
+use mathlib.Core.List.{List, _++_}
 use Prim.Native.Nat.{ℕ, zero, suc, _+_, _-_, _*_, _%_, _^_, _≤_, _<_}
-use native.Mathlib.Nat.{pow-zero, pow-suc, mul-pos, mul-le-mul-right, one-le-pow}
+use native.Mathlib.Nat.{pow-zero, pow-suc, mul-pos, one-le-pow}
 use native.Mathlib.Numerals.{add-one}
 use native.Mathlib.Decide.{decLe}
 use native.Mathlib.Omega.{arith}
 use lib.ListN.{length, take, drop, replicate, length-append, length-replicate}
-use lib.Pow.{pow-add, pow-pos}
+use lib.Pow.{pow-pos}
 use lib.Seq.{take-length}
 use Rattle.laws.specs.Nearest.{nearestEven}
-use Rattle.grammar.specs.Meaning.{digitOf, rawOf}
-use Rattle.grammar.specs.Rounding.{natOf}
+use Rattle.laws.specs.Powers.{power-sub}
+use Rattle.grammar.specs.Meaning.{rawOf}
+use Rattle.grammar.specs.Naturals.{natOf}
 use Rattle.text.specs.declared.fold.Folded.{Folded}
 use Rattle.text.specs.declared.fold.Order.{Order}
 use Rattle.text.specs.declared.fold.Order.the-variants.{Less, Same, More}
@@ -22,8 +23,6 @@ use Rattle.text.specs.Digits.{Small, small-zeros, small-drop, nat-zeros}
 use Rattle.text.specs.Order.{orderTen}
 use Rattle.text.specs.Prefix.{firstRaw, leadOf, first-rounds, twenty-zeros}
 use Rattle.text.specs.Point.{decimal, point-past, point-up, point-down, point-split, point-length}
-use Rattle.grammar.specs.Found.{bodyOf}
-use Rattle.text.specs.Body.{isGap}
 
 -- ---- zeros after the digits
 ten-power : (k : ℕ) → 10 ^ k ≡ 5 ^ k * 2 ^ k
@@ -37,10 +36,7 @@ lift-far v z far = go (decLe 1 v)
     more = 5 ^ z * 2 ^ (z - 64)
 
     split : 10 ^ z ≡ more * 2 ^ 64
-    split =
-        let e : z ≡ z - 64 + 64 = omega arith in
-        let p : 2 ^ z ≡ 2 ^ (z - 64) * 2 ^ 64 = ap (λ (n : ℕ). 2 ^ n) e ∙ pow-add 2 (z - 64) 64 in
-        ten-power z ∙ omega (arith, ap (λ (n : ℕ). 5 ^ z * n) p)
+    split = ten-power z ∙ omega (arith, ap (λ (n : ℕ). 5 ^ z * n) (power-sub 64 z far))
 
     some : 0 < more
     some = mul-pos (one-le-pow z 5 (omega arith)) (pow-pos (z - 64))
@@ -175,13 +171,3 @@ module _ (f : ℕ) (ds : List ℕ) (after e : ℕ) {down : Bool} {r : Folded} wh
 
   pub tens-up : down ≡ false → e < after → r ≡ foldOf (nearestEven (natOf 10 ds * 2 ^ f) (10 ^ (after - e))) → r ≡ foldOf (rawOf 10 f (decimal ds after down e))
   tens-up t l h = h ∙ ap foldOf (sym (point-up f ds after e (omega arith))) ∙ ap (λ (b : Bool). foldOf (rawOf 10 f (decimal ds after b e))) (sym t)
-
--- a body has no more digits than bytes
-pub body-length : (t : List ℕ) → length (bodyOf t) ≤ length t
-unfolding bodyOf
-body-length [] = omega arith
-body-length (b ∷ t) = go (isGap b) (body-length t)
-  where
-    go : (g : Bool) → length (bodyOf t) ≤ length t → length (cond g (bodyOf t) (digitOf b ∷ bodyOf t)) ≤ length (b ∷ t)
-    go true h = omega arith
-    go false h = omega arith

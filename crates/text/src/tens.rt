@@ -5,7 +5,7 @@ ghost use Prim.Native.Nat.{ℕ, _+_, _*_, _^_, _≤_, _<_};
 ghost use lib.ListN.{length, replicate};
 ghost use Rattle.laws.specs.Nearest.{nearestEven};
 ghost use Rattle.grammar.specs.Meaning.{rawOf, textLimit};
-ghost use Rattle.grammar.specs.Rounding.{natOf};
+ghost use Rattle.grammar.specs.Naturals.{natOf};
 ghost use Rattle.text.specs.Fold.{foldOf, valueOf};
 ghost use Rattle.grammar.specs.Found.{bodyOf};
 ghost use Rattle.text.specs.Body.{digitsFrom};

@@ -2,7 +2,7 @@
 -- Assumes nothing.
 use mathlib.Core.Path.{_≡_, refl, ap}
 use mathlib.Core.Bool.{Bool, true, false, cond}
-use Prim.Native.Nat.{ℕ, zero, suc, _+_, _*_, _/_, _%_, _^_, _≤_, _<_}
+use Prim.Native.Nat.{ℕ, suc, _+_, _*_, _/_, _%_, _^_, _≤_, _<_}
 use native.Mathlib.Omega.{arith}
 use native.Mathlib.Nat.{div-add-mod', mod-lt, le-antisymm, lt-of-mul-lt-mul-right}
 use lib.Dec.{ltb}
@@ -11,6 +11,7 @@ use lib.IntN.{ℤ, pos, negsuc, negℤ, natAbs, _+ℤ_, _-ℤ_, _*ℤ_}
 use lib.Signed.{_≤ℤ_, _<ℤ_}
 use borrow.Author.Tests.{ne-eqb, ltb-true, ltb-false}
 use Rattle.laws.specs.Diff.{up-neg, dn-neg, add-out, sub-out, up-mul, dn-mul}
+use Rattle.laws.specs.Bound.{abs-neg}
 use Rattle.laws.specs.Floor.{floor, floor-out}
 use Rattle.laws.specs.Nearest.{Nearest, nearest, nearestEven}
 use Rattle.laws.specs.Order.{mul-out}
@@ -64,10 +65,6 @@ pub size-round : (f : ℕ → ℕ) (z : ℤ) → natAbs (bySize f z) ≡ f (natA
 unfolding bySize
 size-round f (pos n) = refl
 size-round f (negsuc n) = abs-neg (f (suc n))
-  where
-    abs-neg : (m : ℕ) → natAbs (negℤ (pos m)) ≡ m
-    abs-neg zero = refl
-    abs-neg (suc m) = refl
 
 pub round-nearest : (z : ℤ) (m : ℕ) → 0 < m → NearestAway (natAbs z) m (natAbs (bySize (λ (n : ℕ). nearestAway n m) z))
 round-nearest z m h = rw (size-round (λ (n : ℕ). nearestAway n m) z) (nearest-away (natAbs z) m h)

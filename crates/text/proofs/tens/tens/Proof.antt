@@ -3,7 +3,8 @@ use native.Mathlib.Omega.{arith}
 use borrow.Author.Needs.{needs}
 use Rattle.grammar.specs.Found.{bodyOf}
 use Rattle.text.specs.Digits.{small-all}
-use Rattle.text.specs.Tens.{body-length, tens-down, tens-past, tens-up}
+use Rattle.text.specs.Body.{body-length}
+use Rattle.text.specs.Tens.{tens-down, tens-past, tens-up}
 use Rattle.text.proofs.tens.tens.Statement.{statement}
 use Rattle.text.proofs.tens.tens.Tie as tie
 
