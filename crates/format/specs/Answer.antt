@@ -10,7 +10,7 @@ use Rattle.format.specs.declared.SignedAnswer.{SignedAnswer}
 use Rattle.format.specs.declared.SignedAnswer.the-variants.{Done as DoneS, Refused as RefusedS}
 use Rattle.format.specs.declared.UnsignedAnswer.{UnsignedAnswer}
 use Rattle.format.specs.declared.UnsignedAnswer.the-variants.{Done as DoneU, Refused as RefusedU}
-use Rattle.format.specs.Meaning.{Sign, signed, unsigned, settle, unless, Outcome, done, refused, signedAnswer, unsignedAnswer}
+use Rattle.format.specs.Meaning.{Sign, settle, unless, Outcome, done, refused, signedAnswer, unsignedAnswer}
 use Rattle.format.specs.Settle.{unless-fault, unless-none}
 
 module _ {o : Outcome} where

@@ -1,22 +1,21 @@
 -- The four manners from what the code finds of a number: whether its magnitude is within the limit on its side, the magnitude held
 -- to that limit, and the raw that the residue stands for. One law a manner, over the width and the sign. Assumes nothing.
-use mathlib.Core.Path.{_≡_, refl, sym, ap, ap₂, _∙_}
-use mathlib.Core.Bool.{Bool, true, false, not, cond}
-use Prim.Native.Nat.{ℕ, suc, _+_, _*_, _-_, _^_, _≤_, _<_, min}
+use mathlib.Core.Path.{_≡_, sym, ap, ap₂, _∙_}
+use mathlib.Core.Bool.{Bool, true, false, not}
+use Prim.Native.Nat.{ℕ, _+_, _*_, _-_, _^_, _≤_, min}
 use native.Mathlib.Omega.{arith}
-use lib.Dec.{leb, eqb}
-use lib.Pow.{pow-mono, pow-pos}
+use lib.Dec.{leb}
+use lib.Pow.{pow-pos}
 use lib.IntN.{ℤ, pos}
 use mir.Syntax.{w64}
 use mir.Val.{SFits}
-use borrow.Author.Tests.{leb-true, eqb-true, eq-eqb, ne-eqb}
+use borrow.Author.Tests.{leb-true, eq-eqb, ne-eqb}
 use Rattle.laws.specs.Bound.{sfits-in}
 use Rattle.laws.specs.Diff.{up}
-use Rattle.format.specs.Meaning.{Sign, signed, unsigned, isWidth, faultOf, fits, hold, wrap, settle, unless, withSign, exact, Outcome, done, refused}
+use Rattle.format.specs.Meaning.{Sign, signed, unsigned, isWidth, fits, wrap, settle, unless, withSign, exact, Outcome, done, refused}
 use Rattle.format.specs.Fault.{width-bounds, half-word}
 use Rattle.format.specs.Theorems.{limit}
 use Rattle.format.specs.Place.{PlacedAs, fits-place, hold-place, sign-out, residue, residue-wraps, resigned, resigned-wraps}
-use Rattle.format.specs.declared.Manner.{Manner}
 use Rattle.format.specs.declared.Manner.the-variants.{Strict, Saturating, Wrapping, Overflowing}
 
 -- the limits as the code computes them, h half of 2^W and t the highest unsigned raw

@@ -3,18 +3,18 @@
 use mathlib.Core.Path.{_≡_, refl, sym, ap, _∙_, subst}
 use mathlib.Core.Logic.{_⊎_, inl, inr, _↔_}
 use mathlib.Core.Bool.{Bool, true, false, not, cond, _&&_, true≢false, false≢true}
-use Prim.Native.Nat.{ℕ, suc, _+_, _*_, _-_, _^_, _≤_, _<_}
+use Prim.Native.Nat.{ℕ, suc, _+_, _-_, _^_, _≤_, _<_}
 use native.Mathlib.Nat.{pow-suc}
 use native.Mathlib.Omega.{arith}
 use lib.Pow.{pow-pos}
-use lib.IntN.{ℤ, pos, negsuc, negℤ, natAbs, _+ℤ_, _-ℤ_, _*ℤ_, +ℤ-idl}
-use lib.Signed.{leZ, ltZ, _≤ℤ_, _<ℤ_, ≤ℤ-refl}
+use lib.IntN.{ℤ, pos, negsuc, natAbs, _+ℤ_, _-ℤ_, _*ℤ_, +ℤ-idl}
+use lib.Signed.{leZ, _≤ℤ_, _<ℤ_, ≤ℤ-refl}
 use Rattle.laws.specs.Diff.{up, dn, add-out, sub-out, up-neg, dn-neg}
 use Rattle.laws.specs.Bound.{abs-out, abs-in}
 use Rattle.laws.specs.Floor.{IsFloor, floor, floor-out, floor-shrZ, shrZ-add}
 use Rattle.laws.specs.Order.{mul-out, <ℤ-or-≥ℤ}
 use Rattle.laws.specs.Signed.{signed as kit}
-use Rattle.laws.specs.Tests.{lt-ltZ, le-ltZ, le-leZ, lt-leZ, ltZ-true, ltZ-false, leZ-true, leZ-false}
+use Rattle.laws.specs.Tests.{lt-ltZ, le-ltZ, le-leZ, leZ-true}
 use Rattle.format.specs.Meaning.{Sign, signed, unsigned, lowest, highest, fits, hold, wrap, settle, done, refused}
 use Rattle.format.specs.declared.Manner.{Manner}
 use Rattle.format.specs.declared.Manner.the-variants.{Strict, Saturating, Wrapping, Overflowing}

@@ -202,9 +202,6 @@ number-at (refuse n) e = let z : _≡_ {A = ℕ} 0 1 = cc in absurd (omega arith
 pub ends-sound : {radix : ℕ} {p : Part} {q : Seen} {x : Written} → Ends radix (at p q x) → Sound radix p q x
 ends-sound (ends-at s) = s
 
-pub ends-kind : {radix n : ℕ} → Ends radix (refuse n) → (11 ≤ n) × (n ≤ 19)
-ends-kind (ends-not l h) = (l, h)
-
 -- ---- the radix
 pub radix-two : (radix : ℕ) → isRadix radix ≡ true → 2 ≤ radix
 unfolding isRadix

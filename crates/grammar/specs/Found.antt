@@ -55,10 +55,6 @@ writtenOf t p =
 abbrev pub wholeOf : List ℕ → Bool → Run → Written
 wholeOf t neg r = record { neg = neg; digits = spanOf t r; after = 0; base = 1; down = false; exp = 0 }
 
-unfoldable pub foundOf : List ℕ → Found → Reading
-foundOf t (Number p) = number (writtenOf t p)
-foundOf t (Refused n) = unread n
-
 -- the ends of a text, before the mark and after it
 unfoldable pub noDigits : Parsed → Bool
 noDigits p = eqb (p .whole .digits) 0 && eqb (p .frac .digits) 0

@@ -2,11 +2,11 @@
 -- Assumes nothing.
 use mathlib.Core.Path.{_≡_, sym, ap}
 use mathlib.Core.Logic.{_⊎_, inl, inr}
-use Prim.Native.Nat.{ℕ, zero, suc, _+_, _*_, _/_, _%_, _≤_, _<_}
+use Prim.Native.Nat.{ℕ, zero, _+_, _*_, _≤_, _<_}
 use native.Mathlib.Omega.{arith}
-use native.Mathlib.Nat.{div-add-mod', mod-lt, div-le-self, div-div-eq-div-mul}
-use lib.IntN.{ℤ, pos, negsuc, negℤ, _+ℤ_, _*ℤ_}
-use lib.Signed.{mag, shrZ, quotZ, _≤ℤ_, _<ℤ_, ≤ℤ-refl}
+use native.Mathlib.Nat.{div-add-mod', mod-lt, div-div-eq-div-mul}
+use lib.IntN.{ℤ, pos, negsuc, _+ℤ_, _*ℤ_}
+use lib.Signed.{shrZ, _≤ℤ_, _<ℤ_, ≤ℤ-refl}
 use Rattle.laws.specs.Diff.{up, dn, add-out, orders}
 use Rattle.laws.specs.Order.{≤ℤ-antisym, mul-out, <ℤ-or-≥ℤ, <ℤ→suc≤ℤ, *ℤ-mono-pos}
 use Rattle.laws.specs.Ring.{*ℤ-distribʳ}
@@ -76,12 +76,3 @@ shrZ-add z q m h =
 pub shrZ-shrZ : (z : ℤ) (m n : ℕ) → shrZ (shrZ z m) n ≡ shrZ z (m * n)
 shrZ-shrZ (pos a) m n = ap pos (div-div-eq-div-mul a m n)
 shrZ-shrZ (negsuc a) m n = ap negsuc (div-div-eq-div-mul a m n)
-
--- the quotient toward zero, of the code's `/`, is no larger than what is divided
-pub mag-quot : (z : ℤ) (b : ℕ) → mag (quotZ z (pos b)) ≤ mag z
-mag-quot (pos a) b = div-le-self a b
-mag-quot (negsuc a) b = go (suc a / b) (div-le-self (suc a) b)
-  where
-    go : (r : ℕ) → r ≤ suc a → mag (negℤ (pos r)) ≤ a
-    go zero h = omega orders
-    go (suc r) h = omega orders

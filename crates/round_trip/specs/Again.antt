@@ -1,20 +1,19 @@
 -- What is written reads back: from the writer's and the reader's promises alone. Assumes nothing.
-use mathlib.Core.Path.{_≡_, refl, sym, ap, ap₂, _∙_, subst}
-use mathlib.Core.Bool.{Bool, true, false, cond}
+use mathlib.Core.Path.{_≡_, refl, sym, ap, _∙_, subst}
+use mathlib.Core.Bool.{Bool, false}
 use mathlib.Core.List.{List}
 use Prim.Native.Nat.{ℕ, _≤_, _<_}
 use native.Mathlib.Omega.{arith}
-use lib.Dec.{leb, eqb}
 use lib.IntN.{ℤ, pos}
 use lib.ListN.{length, take, length-take}
 use lib.Seq.{take-all}
-use borrow.Author.Tests.{le-leb, eq-eqb, leb-true}
+use borrow.Author.Tests.{le-leb, eq-eqb}
 use Rattle.format.specs.declared.Manner.{Manner}
 use Rattle.format.specs.declared.SignedAnswer.{SignedAnswer}
 use Rattle.format.specs.declared.SignedAnswer.the-variants.{Done as DoneS, Refused as RefusedS}
 use Rattle.format.specs.declared.UnsignedAnswer.{UnsignedAnswer}
 use Rattle.format.specs.declared.UnsignedAnswer.the-variants.{Done as DoneU, Refused as RefusedU}
-use Rattle.format.specs.Meaning.{Sign, signed, unsigned, faultOf, unless, done, refused, signedAnswer, unsignedAnswer}
+use Rattle.format.specs.Meaning.{Sign, signed, unsigned, faultOf, unless, done, signedAnswer, unsignedAnswer}
 use Rattle.format.specs.Theorems.{InRange}
 use Rattle.grammar.specs.Meaning.{readOf}
 use Rattle.decimal.specs.Meaning.{rawText, put, writeOf}

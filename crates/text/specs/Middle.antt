@@ -1,6 +1,6 @@
 -- Rounding by the middle where a whole part stands beside the fraction: the tie is decided by the last bit of the sum. Assumes nothing.
 use mathlib.Core.Path.{_≡_, ap, ap₂, _∙_}
-use Prim.Native.Nat.{ℕ, zero, suc, _+_, _*_, _≤_, _<_}
+use Prim.Native.Nat.{ℕ, _+_, _*_, _≤_, _<_}
 use native.Mathlib.Omega.{arith}
 use Rattle.laws.specs.Nearest.{nearestEven}
 use Rattle.text.specs.declared.fold.Order.{Order}

@@ -10,15 +10,8 @@ use lib.ListN.{length, take, drop, getD, take-append-drop, length-drop}
 use lib.Seq.{drop-cons}
 use borrow.Author.Tests.{eqb-true, eqb-false}
 use Rattle.grammar.specs.Meaning.{natFrom}
-use Rattle.grammar.specs.Naturals.{natOf, natFrom-append, natFrom-shift, natOf-append}
+use Rattle.grammar.specs.Naturals.{natOf, natFrom-append, natFrom-shift}
 use Rattle.text.specs.Body.{anyOf}
-
--- ---- those in front and those behind
-pub nat-split : (radix : ℕ) (ds : List ℕ) (k : ℕ) → natOf radix ds ≡ natOf radix (take k ds) * radix ^ (length ds - k) + natOf radix (drop k ds)
-nat-split radix ds k =
-    ap (natOf radix) (sym (take-append-drop k ds))
-    ∙ natOf-append radix (take k ds) (drop k ds)
-    ∙ ap (λ (n : ℕ). natOf radix (take k ds) * radix ^ n + natOf radix (drop k ds)) (length-drop k ds)
 
 -- the digit number k, with those before and after it
 pub nat-around : (radix : ℕ) (ds : List ℕ) (k : ℕ) → k < length ds

@@ -1,5 +1,5 @@
 -- The promises of the readers, each an equation, and that each settles its answer. Assumes nothing.
-use mathlib.Core.Path.{_≡_, sym, _∙_}
+use mathlib.Core.Path.{_≡_}
 use mathlib.Core.List.{List}
 use Prim.Native.Nat.{ℕ}
 use Rattle.format.specs.declared.Manner.{Manner}
