@@ -3,23 +3,6 @@
 #include "check.h"
 #include "tamqoret.h"
 
-static void same(const char *what, uint32_t number, uint32_t flag, uint64_t value, uint32_t want_number, uint32_t want_flag, uint64_t want)
-{
-    check(number == want_number, what, number, want_number);
-    check(flag == want_flag, what, flag, want_flag);
-    check(value == want, what, value, want);
-}
-
-static void on_signed(const char *what, tq_signed a, uint32_t number, uint32_t flag, int64_t want)
-{
-    same(what, a.number, a.flag, (uint64_t)a.value, number, flag, (uint64_t)want);
-}
-
-static void on_unsigned(const char *what, tq_unsigned a, uint32_t number, uint32_t flag, uint64_t want)
-{
-    same(what, a.number, a.flag, a.value, number, flag, want);
-}
-
 static void formats(void)
 {
     on_signed("a bit dropped below zero", tq_convert_signed_to_signed(-1, 8, 1, 8, 0, TQ_STRICT), 0, 0, -1);

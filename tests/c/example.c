@@ -1,7 +1,6 @@
 /* The README's program. Compared with what the README says it prints. */
-#include <stdio.h>
 #include <string.h>
-#include "tamqoret.h"
+#include "check.h"
 
 int main(void)
 {
@@ -10,7 +9,6 @@ int main(void)
     char line[64];
     snprintf(line, sizeof line, "verdict %llu: samples %d, %d clip", (unsigned long long)verdict.value, witness[0], witness[1]);
     puts(line);
-    int right = strcmp(line, "verdict 2: samples -32768, -32768 clip") == 0;
-    printf("%d passed, %d failed\n", right, !right);
-    return !right;
+    check(strcmp(line, "verdict 2: samples -32768, -32768 clip") == 0, "verdict", verdict.value, 2);
+    return finish();
 }

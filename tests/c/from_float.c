@@ -75,31 +75,22 @@ static const row rows[] = {
     {64, UINT64_C(0x7ff0000000000000), TQ_STRICT, 0, 8, 9, 2, 0, 0},
 };
 
-static void one(const row *r)
+static tq_unsigned answer(const row *r)
 {
-    uint32_t number, flag;
-    uint64_t value;
-    if (r->is_signed) {
-        tq_signed a = r->bits == 32 ? tq_from_f32_signed((uint32_t)r->pattern, r->width, r->frac, r->manner)
-                                    : tq_from_f64_signed(r->pattern, r->width, r->frac, r->manner);
-        number = a.number;
-        flag = a.flag;
-        value = (uint64_t)a.value;
-    } else {
-        tq_unsigned a = r->bits == 32 ? tq_from_f32_unsigned((uint32_t)r->pattern, r->width, r->frac, r->manner)
-                                      : tq_from_f64_unsigned(r->pattern, r->width, r->frac, r->manner);
-        number = a.number;
-        flag = a.flag;
-        value = a.value;
-    }
-    check(number == r->number, "number", number, r->number);
-    check(flag == r->flag, "flag", flag, r->flag);
-    check(value == (uint64_t)r->value, "value", value, (uint64_t)r->value);
+    uint32_t narrow = (uint32_t)r->pattern;
+    if (r->is_signed)
+        return bits_of(r->bits == 32 ? tq_from_f32_signed(narrow, r->width, r->frac, r->manner)
+                                     : tq_from_f64_signed(r->pattern, r->width, r->frac, r->manner));
+    return r->bits == 32 ? tq_from_f32_unsigned(narrow, r->width, r->frac, r->manner)
+                         : tq_from_f64_unsigned(r->pattern, r->width, r->frac, r->manner);
 }
 
 int main(void)
 {
-    for (size_t i = 0; i < sizeof rows / sizeof *rows; i++)
-        one(&rows[i]);
+    for (size_t i = 0; i < COUNT(rows); i++) {
+        char what[32];
+        snprintf(what, sizeof what, "row %zu", i);
+        on_unsigned(what, answer(&rows[i]), rows[i].number, rows[i].flag, (uint64_t)rows[i].value);
+    }
     return finish();
 }

@@ -36,43 +36,42 @@ static void filter(size_t n, size_t len, size_t out_len, size_t clips_len, uint3
 static void log10_limits(void)
 {
     const uint32_t widths[] = {0, 7, 8, 16, 32, 64, 65, 4294967295u};
-    for (size_t i = 0; i < 8; i++) {
+    for (size_t i = 0; i < COUNT(widths); i++) {
         uint32_t w = widths[i], number = w == 8 || w == 16 || w == 32 || w == 64 ? 0 : 1;
-        check(tq_log10_unsigned(1, w, 0).number == number, "log10: width", w, number);
-        check(tq_log10_signed(INT64_MIN, w, 0).number == (number ? number : 32), "log10: negative", w, 32);
-        check(tq_log10_unsigned(0, w, 0).number == (number ? number : 32), "log10: zero", w, 32);
-        check(tq_log10_unsigned(1, w, w + 1).number == (number ? number : 2), "log10: frac", w, 2);
+        on_signed("log10: width", tq_log10_unsigned(1, w, 0), number, 0, 0);
+        on_signed("log10: negative", tq_log10_signed(INT64_MIN, w, 0), number ? number : 32, 0, 0);
+        on_signed("log10: zero", tq_log10_unsigned(0, w, 0), number ? number : 32, 0, 0);
+        on_signed("log10: frac", tq_log10_unsigned(1, w, w + 1), number ? number : 2, 0, 0);
     }
-    check(tq_log10_unsigned(UINT64_MAX, 64, 0).value == 19, "log10: largest", 19, 19);
-    check(tq_log10_unsigned(1, 64, 64).value == -20, "log10: smallest", 20, 20);
+    on_signed("log10: largest", tq_log10_unsigned(UINT64_MAX, 64, 0), 0, 0, 19);
+    on_signed("log10: smallest", tq_log10_unsigned(1, 64, 64), 0, 0, -20);
 }
 
 /* The largest raw plus one step in each manner, the least over -1, a zero divisor after the format, shifts at the width, bytes. */
 static void arith_limits(void)
 {
-    check(tq_add_signed(32767, 1, 16, 15, TQ_STRICT).number == TQ_OVERFLOW, "add: strict", 0, TQ_OVERFLOW);
-    check(tq_add_signed(32767, 1, 16, 15, TQ_SATURATING).value == 32767, "add: saturating", 0, 32767);
-    check(tq_add_signed(32767, 1, 16, 15, TQ_WRAPPING).value == -32768, "add: wrapping", 0, 0);
-    tq_signed over = tq_add_signed(32767, 1, 16, 15, TQ_OVERFLOWING);
-    check(over.value == -32768 && over.flag == 1, "add: overflowing", over.flag, 1);
-    tq_signed least = tq_div_signed(INT64_MIN, -1, 64, 0, TQ_SATURATING);
-    check(least.value == INT64_MAX && least.number == 0, "div: least over -1", least.number, 0);
-    check(tq_mul_signed(-1, 1, 16, 15, TQ_STRICT).value == -1, "mul: toward minus infinity", 0, 1);
-    check(tq_div_signed(-1, 2, 16, 0, TQ_STRICT).value == 0, "div: toward zero", 0, 0);
-    check(tq_rem_signed(-7, 4, 16, 0, TQ_STRICT).value == -3, "rem: the dividend's sign", 0, 3);
-    check(tq_div_unsigned(1, 0, 16, 0, TQ_STRICT).number == TQ_ZERO_DIVISOR, "div: by 0", 0, TQ_ZERO_DIVISOR);
-    check(tq_div_unsigned(1, 0, 9, 0, TQ_STRICT).number == TQ_WRONG_WIDTH, "div: width before 0", 0, TQ_WRONG_WIDTH);
-    check(tq_rem_unsigned(1, 0, 16, 17, TQ_STRICT).number == TQ_WRONG_FRAC, "rem: frac before 0", 0, TQ_WRONG_FRAC);
-    check(tq_shl_unsigned(1, 8, 8, 0, TQ_STRICT).number == TQ_OVERFLOW, "shl: by the width", 0, TQ_OVERFLOW);
-    check(tq_shl_unsigned(1, 8, 8, 0, TQ_SATURATING).number == TQ_OVERFLOW, "shl: not saturating", 0, TQ_OVERFLOW);
-    tq_unsigned turned = tq_shl_unsigned(1, UINT32_MAX, 8, 0, TQ_OVERFLOWING);
-    check(turned.value == 128 && turned.flag == 1, "shl: modulo the width", turned.value, 128);
-    check(tq_swap_bytes_unsigned(0x1234, 16, 8).value == 0x3412, "swap", 0, 0x3412);
+    on_signed("add: strict", tq_add_signed(32767, 1, 16, 15, TQ_STRICT), TQ_OVERFLOW, 0, 0);
+    on_signed("add: saturating", tq_add_signed(32767, 1, 16, 15, TQ_SATURATING), 0, 0, 32767);
+    on_signed("add: wrapping", tq_add_signed(32767, 1, 16, 15, TQ_WRAPPING), 0, 0, -32768);
+    on_signed("add: overflowing", tq_add_signed(32767, 1, 16, 15, TQ_OVERFLOWING), 0, 1, -32768);
+    on_signed("div: least over -1", tq_div_signed(INT64_MIN, -1, 64, 0, TQ_SATURATING), 0, 0, INT64_MAX);
+    on_signed("mul: toward minus infinity", tq_mul_signed(-1, 1, 16, 15, TQ_STRICT), 0, 0, -1);
+    on_signed("div: toward zero", tq_div_signed(-1, 2, 16, 0, TQ_STRICT), 0, 0, 0);
+    on_signed("rem: the dividend's sign", tq_rem_signed(-7, 4, 16, 0, TQ_STRICT), 0, 0, -3);
+    on_unsigned("div: by 0", tq_div_unsigned(1, 0, 16, 0, TQ_STRICT), TQ_ZERO_DIVISOR, 0, 0);
+    on_unsigned("div: width before 0", tq_div_unsigned(1, 0, 9, 0, TQ_STRICT), TQ_WRONG_WIDTH, 0, 0);
+    on_unsigned("rem: frac before 0", tq_rem_unsigned(1, 0, 16, 17, TQ_STRICT), TQ_WRONG_FRAC, 0, 0);
+    on_unsigned("shl: by the width", tq_shl_unsigned(1, 8, 8, 0, TQ_STRICT), TQ_OVERFLOW, 0, 0);
+    on_unsigned("shl: not saturating", tq_shl_unsigned(1, 8, 8, 0, TQ_SATURATING), TQ_OVERFLOW, 0, 0);
+    on_unsigned("shl: modulo the width", tq_shl_unsigned(1, UINT32_MAX, 8, 0, TQ_OVERFLOWING), 0, 1, 128);
+    on_unsigned("swap", tq_swap_bytes_unsigned(0x1234, 16, 8), 0, 0, 0x3412);
     uint8_t out[3] = {0x5a, 0x5a, 0x5a};
-    check(tq_to_be_bytes_signed(-2, 16, 0, out, 1).number == TQ_WRONG_LENGTH && out[0] == 0x5a, "to bytes: room", out[0], 0x5a);
-    check(tq_to_be_bytes_signed(-2, 16, 0, out, 3).value == 2 && out[0] == 0xff && out[1] == 0xfe && out[2] == 0x5a, "to bytes", out[1], 0xfe);
-    check(tq_from_be_bytes_signed(out, 2, 16, 0).value == -2, "from bytes", 0, 2);
-    check(tq_from_be_bytes_signed(out, 3, 16, 0).number == TQ_WRONG_LENGTH, "from bytes: length", 0, TQ_WRONG_LENGTH);
+    on_unsigned("to bytes: room", tq_to_be_bytes_signed(-2, 16, 0, out, 1), TQ_WRONG_LENGTH, 0, 0);
+    check(out[0] == 0x5a, "to bytes: touched", out[0], 0x5a);
+    on_unsigned("to bytes", tq_to_be_bytes_signed(-2, 16, 0, out, 3), 0, 0, 2);
+    check(out[0] == 0xff && out[1] == 0xfe && out[2] == 0x5a, "to bytes: written", out[1], 0xfe);
+    on_signed("from bytes", tq_from_be_bytes_signed(out, 2, 16, 0), 0, 0, -2);
+    on_signed("from bytes: length", tq_from_be_bytes_signed(out, 3, 16, 0), TQ_WRONG_LENGTH, 0, 0);
 }
 
 int main(void)
