@@ -100,7 +100,7 @@ pub fn sum(x: Number, y: Number) -> Exact
 const ADDS_UP: u64 = 0x4000_0000_0000_0000;
 
 // a + b, with no branch on a sign where a signed word holds it: every sum of the narrow widths.
-pub fn signed_sum(a: i64, b: i64) -> Exact
+pub(crate) fn signed_sum(a: i64, b: i64) -> Exact
     ensures { λ r. ⌜ exactOf r ≡ a +ℤ b ⌝ }
 {
     let x = of_signed(a);
@@ -114,7 +114,7 @@ pub fn signed_sum(a: i64, b: i64) -> Exact
 }
 
 // a - b, the same way.
-pub fn signed_difference(a: i64, b: i64) -> Exact
+pub(crate) fn signed_difference(a: i64, b: i64) -> Exact
     ensures { λ r. ⌜ exactOf r ≡ a +ℤ negℤ b ⌝ }
 {
     let x = of_signed(a);
@@ -128,7 +128,7 @@ pub fn signed_difference(a: i64, b: i64) -> Exact
 }
 
 // x * y / 2^frac, rounded toward minus infinity.
-pub fn product(x: Number, y: Number, frac: u32) -> Exact
+pub(crate) fn product(x: Number, y: Number, frac: u32) -> Exact
     ensures { λ r. ⌜ exactOf r ≡ floorOf (numberOf x *ℤ numberOf y) (2 ^ frac) ⌝ }
 {
     let p = wide::mul(x.size, y.size);
@@ -139,7 +139,7 @@ pub fn product(x: Number, y: Number, frac: u32) -> Exact
 const MULTIPLIES: u64 = 0x8000_0000;
 
 // a * b / 2^frac, rounded toward minus infinity: one multiplication and one shift for numbers that fit 32 bits, so for every product of the narrow widths.
-pub fn signed_product(a: i64, b: i64, frac: u32) -> Exact
+pub(crate) fn signed_product(a: i64, b: i64, frac: u32) -> Exact
     ensures { λ r. ⌜ exactOf r ≡ floorOf (a *ℤ b) (2 ^ frac) ⌝ }
 {
     let x = of_signed(a);
@@ -212,7 +212,7 @@ pub fn shifted_left(x: Number, k: u32) -> Exact
 }
 
 // x * 2^frac / y, rounded toward zero.
-pub fn quotient(x: Number, y: Number, frac: u32) -> Exact
+pub(crate) fn quotient(x: Number, y: Number, frac: u32) -> Exact
     requires { ⌜ (0 < y .size) × (frac ≤ 64) ⌝ }
     ensures { λ r. ⌜ exactOf r ≡ quotZ (numberOf x *ℤ pos (2 ^ frac)) (numberOf y) ⌝ }
 {
@@ -226,7 +226,7 @@ pub fn quotient(x: Number, y: Number, frac: u32) -> Exact
 }
 
 // What the division of x by y leaves, with the sign of x.
-pub fn remainder(x: Number, y: Number) -> Exact
+pub(crate) fn remainder(x: Number, y: Number) -> Exact
     requires { ⌜ 0 < y .size ⌝ }
     ensures { λ r. ⌜ exactOf r ≡ remZ (numberOf x) (numberOf y) ⌝ }
 {
