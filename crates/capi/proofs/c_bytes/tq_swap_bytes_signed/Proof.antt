@@ -14,7 +14,7 @@ signed-requires c κs = search needs
 returns : tie.Need-returns
 returns c =
     let same = toZ-ofZ {w = w64} (c .before .before .fits .a) in
-    record { answer = c .before .swap-bytes .result; copied = c .signed .ensures; meets = cc }
+    record { answer = c .before .swap-bytes .result; copied = c .signed .ensures; meets = rw (same) at (c .before .swap-bytes .ensures) }
 
 pub tq-swap-bytes-signed-spec : {M : Type 1} → statement M
 tq-swap-bytes-signed-spec = tie.close (tie.spec swap-bytes-requires signed-requires returns)

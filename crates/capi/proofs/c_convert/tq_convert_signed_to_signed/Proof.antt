@@ -17,7 +17,7 @@ signed-requires c κs = search needs
 returns : tie.Need-returns
 returns c =
     let same = toZ-ofZ {w = w64} (c .before .before .before .fits .raw) in
-    record { answer = c .before .to-signed .result; copied = c .signed .ensures; meets = cc }
+    record { answer = c .before .to-signed .result; copied = c .signed .ensures; meets = rw (same, c .before .before .manner .ensures) at (c .before .to-signed .ensures) }
 
 pub tq-convert-signed-to-signed-spec : {M : Type 1} → statement M
 tq-convert-signed-to-signed-spec =

@@ -17,7 +17,7 @@ unsigned-requires c κs = search needs
 returns : tie.Need-returns
 returns c =
     let same = toZ-ofZ {w = w64} (c .before .before .before .fits .raw) in
-    record { answer = c .before .to-unsigned .result; copied = c .unsigned .ensures; meets = cc }
+    record { answer = c .before .to-unsigned .result; copied = c .unsigned .ensures; meets = rw (same, c .before .before .manner .ensures) at (c .before .to-unsigned .ensures) }
 
 pub tq-convert-signed-to-unsigned-spec : {M : Type 1} → statement M
 tq-convert-signed-to-unsigned-spec =

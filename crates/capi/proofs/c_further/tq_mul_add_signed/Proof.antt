@@ -19,7 +19,7 @@ returns c =
     let same-a = toZ-ofZ {w = w64} (c .before .before .before .fits .a) in
     let same-b = toZ-ofZ {w = w64} (c .before .before .before .fits .b) in
     let same-c = toZ-ofZ {w = w64} (c .before .before .before .fits .c) in
-    record { answer = c .before .mul-add .result; copied = c .signed .ensures; meets = cc }
+    record { answer = c .before .mul-add .result; copied = c .signed .ensures; meets = rw (same-a, same-b, same-c, c .before .before .manner .ensures) at (c .before .mul-add .ensures) }
 
 pub tq-mul-add-signed-spec : {M : Type 1} → statement M
 tq-mul-add-signed-spec = tie.close (tie.spec manner-requires mul-add-requires signed-requires returns)

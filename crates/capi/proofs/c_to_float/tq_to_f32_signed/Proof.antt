@@ -14,7 +14,7 @@ unsigned-requires c κs = search needs
 returns : tie.Need-returns
 returns c =
     let same = toZ-ofZ {w = w64} (c .before .before .fits .raw) in
-    record { answer = c .before .to-f32 .result; copied = c .unsigned .ensures; meets = cc }
+    record { answer = c .before .to-f32 .result; copied = c .unsigned .ensures; meets = rw (same) at (c .before .to-f32 .ensures) }
 
 pub tq-to-f32-signed-spec : {M : Type 1} → statement M
 tq-to-f32-signed-spec = tie.close (tie.spec to-f32-requires unsigned-requires returns)
