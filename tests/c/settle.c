@@ -21,12 +21,14 @@ int main(void)
         uint32_t w = widths[i];
         const uint32_t fracs[] = {0, 1, w - 1, w, w + 1, 4294967295u};
         const uint32_t manners[] = {0, 1, 2, 3, 4, 4294967295u};
+        const uint32_t negs[] = {0, 1, 2, 256, 2147483648u, 4294967295u};
         for (size_t h = 0; h < COUNT(words); h++)
             for (size_t l = 0; l < COUNT(words); l++)
                 for (size_t f = 0; f < COUNT(fracs); f++)
                     for (size_t k = 0; k < COUNT(manners); k++)
-                        for (int s = 0; s < 4; s++)
-                            one((format){s & 1, w, fracs[f], manners[k]}, (uint32_t)s >> 1, words[h], words[l]);
+                        for (size_t n = 0; n < COUNT(negs); n++)
+                            for (int s = 0; s < 2; s++)
+                                one((format){s, w, fracs[f], manners[k]}, negs[n], words[h], words[l]);
     }
     return finish();
 }
