@@ -4,17 +4,14 @@ use mathlib.Core.Bool.{true, false}
 use lib.IntN.{pos, negsuc}
 use Rattle.format.specs.declared.Manner.the-variants.{Strict, Saturating, Wrapping, Overflowing}
 use Rattle.format.specs.Meaning.{signed, unsigned, isWidth, faultOf, unless, lowest, highest, fits, hold, wrap, settle, done, refused}
-use Rattle.arith.specs.Meaning.{addOf, mulOf, divOf, remOf, shlOf, shrOf, swapOf, orElse, divisorFault, pastFault, countFault, countFlag, lowBits, leBytes, fromBe}
+use Rattle.exact.specs.Meaning.{orElse}
+use Rattle.arith.specs.Meaning.{addOf, mulOf, divOf, remOf, divisorFault}
 
 module _ where
-  -- "W 32, F 16, signed: maximum plus one step, wrapping, is the minimum. Bytes swapped: 0x12345678 gives 0x78563412"
+  -- "W 32, F 16, signed: maximum plus one step, wrapping, is the minimum."
   past-maximum : addOf Wrapping signed 32 16 (pos 2147483647) (pos 1) ≡ done (negsuc 2147483647) false
   unfolding isWidth faultOf unless lowest wrap settle
   past-maximum = refl
-
-  swapped : swapOf signed 32 16 (pos 0x12345678) ≡ done (pos 0x78563412) false
-  unfolding isWidth faultOf unless lowest wrap lowBits leBytes fromBe
-  swapped = refl
 
   -- "Taking the sign of a saturated result from the wrapped number": 127 + 127 is held to 127
   saturated : addOf Saturating signed 8 0 (pos 127) (pos 127) ≡ done (pos 127) false
@@ -47,20 +44,3 @@ module _ where
   no-format : divOf Strict unsigned 9 9 (pos 1) (pos 0) ≡ refused 1
   unfolding isWidth faultOf orElse divisorFault unless
   no-format = refl
-
-  -- a shift by W: the count modulo W, and the flag; the bits that are lost do not matter
-  by-width : shlOf Overflowing signed 8 4 (pos 3) 8 ≡ done (pos 3) true
-  unfolding isWidth faultOf orElse countFault pastFault countFlag unless lowest wrap
-  by-width = refl
-
-  by-width-strict : shrOf Strict signed 8 4 (pos 3) 8 ≡ refused 10
-  unfolding isWidth faultOf orElse countFault pastFault unless
-  by-width-strict = refl
-
-  lost-bits : shlOf Overflowing signed 8 4 (pos 127) 7 ≡ done (negsuc 127) false
-  unfolding isWidth faultOf orElse countFault pastFault countFlag unless lowest wrap
-  lost-bits = refl
-
-  keeps-sign : shrOf Strict signed 8 4 (negsuc 127) 7 ≡ done (negsuc 0) false
-  unfolding isWidth faultOf orElse countFault pastFault countFlag unless lowest wrap
-  keeps-sign = refl

@@ -1,11 +1,5 @@
-pub mod ByteOrder
-pub mod Bytes
 pub mod Cases
-pub mod Exact
 pub mod Meaning
 pub mod Promise
 pub mod Refusals
-pub mod Settled
-pub mod Shift
-pub mod Signs
 pub mod Theorems

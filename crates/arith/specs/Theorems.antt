@@ -18,7 +18,8 @@ use Rattle.format.specs.declared.Manner.{Manner}
 use Rattle.format.specs.declared.Manner.the-variants.{Saturating, Wrapping}
 use Rattle.format.specs.Meaning.{Sign, faultOf, settle, done, highest, hold, wrap}
 use Rattle.format.specs.Settle.{unless-none}
-use Rattle.format.specs.Theorems.{InRange, Congruent, wrap-in, wrap-congruent, wrap-only, sides, hold-in, settle-fits}
+use Rattle.format.specs.Theorems.{InRange, Congruent, wrap-congruent, sides, hold-in, settle-fits}
+use Rattle.exact.specs.Theorems.{wrap-same}
 use Rattle.arith.specs.Meaning.{addOf, negOf}
 
 -- ---- the product is rounded toward minus infinity
@@ -136,18 +137,6 @@ module _ (s : Sign) (w f : ℕ) (free : faultOf w f ≡ 0) (a b : ℤ) where
   sum-saturating = unless-none (faultOf w f) (done (hold s w (a +ℤ b)) false) free
 
 -- ---- wrapping: only the residues modulo 2^W of the operands count
-pub wrap-same : (s : Sign) (w : ℕ) {x y : ℤ} → 0 < w → Congruent (2 ^ w) x y → wrap s w x ≡ wrap s w y
-wrap-same s w {x} {y} h c =
-    let m = pos (2 ^ w) in
-    let d = wrap-congruent s w h y in
-    let z = wrap s w y in
-    sym
-    (wrap-only s w h x (wrap-in s w h y)
-    (record {
-      turns = d .turns +ℤ c .turns;
-      differ = omega (kit, c .differ, d .differ, *ℤ-distribʳ (d .turns) (c .turns) m, add-out y (c .turns *ℤ m), add-out z (d .turns *ℤ m), add-out (d .turns *ℤ m) (c .turns *ℤ m), add-out z ((d .turns +ℤ c .turns) *ℤ m));
-    }))
-
 pub sum-congruent : (m : ℕ) {a b x y : ℤ} → Congruent m a x → Congruent m b y → Congruent m (a +ℤ b) (x +ℤ y)
 sum-congruent m {a} {b} {x} {y} c d =
     let k = c .turns *ℤ pos m in

@@ -116,45 +116,45 @@ fn quotients() {
 fn shifts() {
     shown::signed(
         b"unbounded_shl: 1.5 << 5",
-        arith::signed::shl(98304, 5, 32, 16, Manner::Wrapping),
+        shift::signed::shl(98304, 5, 32, 16, Manner::Wrapping),
     );
     shown::signed(
         b"unbounded_shr: 1.5 >> 5",
-        arith::signed::shr(98304, 5, 32, 16, Manner::Wrapping),
+        shift::signed::shr(98304, 5, 32, 16, Manner::Wrapping),
     );
     shown::signed(
         b"unbounded_shr: -1.5 >> 5",
-        arith::signed::shr(-98304, 5, 32, 16, Manner::Wrapping),
+        shift::signed::shr(-98304, 5, 32, 16, Manner::Wrapping),
     );
 }
 
 fn words() {
     shown::signed(
         b"swap_bytes: 0x12345678",
-        arith::signed::swap_bytes(0x1234_5678, 32, 16),
+        byte_order::signed::swap_bytes(0x1234_5678, 32, 16),
     );
     shown::unsigned(
         b"swap_bytes, unsigned: 0x12345678",
-        arith::unsigned::swap_bytes(0x1234_5678, 32, 16),
+        byte_order::unsigned::swap_bytes(0x1234_5678, 32, 16),
     );
     shown::signed(
         b"from_be_bytes: 12 34 56 78",
-        arith::signed::from_be_bytes(b"\x12\x34\x56\x78", 32, 16),
+        byte_order::signed::from_be_bytes(b"\x12\x34\x56\x78", 32, 16),
     );
     shown::signed(
         b"from_le_bytes: 78 56 34 12",
-        arith::signed::from_le_bytes(b"\x78\x56\x34\x12", 32, 16),
+        byte_order::signed::from_le_bytes(b"\x78\x56\x34\x12", 32, 16),
     );
 }
 
 fn buffers() {
     let mut big = [0u8; 5];
-    let a = arith::signed::to_be_bytes(0x1234_5678, 32, 16, &mut big);
+    let a = byte_order::signed::to_be_bytes(0x1234_5678, 32, 16, &mut big);
     shown::bytes(b"to_be_bytes: 0x12345678, five places", &big, a);
     let mut little = [0u8; 4];
-    let b = arith::signed::to_le_bytes(0x1234_5678, 32, 16, &mut little);
+    let b = byte_order::signed::to_le_bytes(0x1234_5678, 32, 16, &mut little);
     shown::bytes(b"to_le_bytes: 0x12345678, four places", &little, b);
     let mut short = [7u8; 3];
-    let c = arith::unsigned::to_le_bytes(0x1234_5678, 32, 16, &mut short);
+    let c = byte_order::unsigned::to_le_bytes(0x1234_5678, 32, 16, &mut short);
     shown::bytes(b"to_le_bytes: 0x12345678, three places", &short, c);
 }

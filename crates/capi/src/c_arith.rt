@@ -1,6 +1,7 @@
 // tq_add_S to tq_shr_S: arithmetic on raws, in the manner that its number stands for.
-ghost use Rattle.arith.specs.Promise.{SignedAdd, SignedSub, SignedMul, SignedDiv, SignedRem, SignedNeg, SignedShl, SignedShr};
-ghost use Rattle.arith.specs.Promise.{UnsignedAdd, UnsignedSub, UnsignedMul, UnsignedDiv, UnsignedRem, UnsignedNeg, UnsignedShl, UnsignedShr};
+ghost use Rattle.arith.specs.Promise.{SignedAdd, SignedSub, SignedMul, SignedDiv, SignedRem, SignedNeg};
+ghost use Rattle.arith.specs.Promise.{UnsignedAdd, UnsignedSub, UnsignedMul, UnsignedDiv, UnsignedRem, UnsignedNeg};
+ghost use Rattle.shift.specs.Promise.{SignedShl, SignedShr, UnsignedShl, UnsignedShr};
 ghost use Rattle.capi.specs.Answer.{Signed, Unsigned, mannerOf};
 use crate::answer;
 use crate::answer::CSigned;
@@ -52,14 +53,14 @@ pub extern "C" fn tq_neg_signed(a: i64, width: u32, frac: u32, manner: u32) -> C
 pub extern "C" fn tq_shl_signed(a: i64, count: u32, width: u32, frac: u32, manner: u32) -> CSigned
     ensures { λ r. ⌜ Signed (SignedShl a count width frac (mannerOf manner)) r ⌝ }
 {
-    answer::signed(arith::signed::shl(a, count, width, frac, answer::manner(manner)))
+    answer::signed(shift::signed::shl(a, count, width, frac, answer::manner(manner)))
 }
 
 #[no_mangle]
 pub extern "C" fn tq_shr_signed(a: i64, count: u32, width: u32, frac: u32, manner: u32) -> CSigned
     ensures { λ r. ⌜ Signed (SignedShr a count width frac (mannerOf manner)) r ⌝ }
 {
-    answer::signed(arith::signed::shr(a, count, width, frac, answer::manner(manner)))
+    answer::signed(shift::signed::shr(a, count, width, frac, answer::manner(manner)))
 }
 
 #[no_mangle]
@@ -114,7 +115,7 @@ pub extern "C" fn tq_shl_unsigned(
 ) -> CUnsigned
     ensures { λ r. ⌜ Unsigned (UnsignedShl a count width frac (mannerOf manner)) r ⌝ }
 {
-    answer::unsigned(arith::unsigned::shl(a, count, width, frac, answer::manner(manner)))
+    answer::unsigned(shift::unsigned::shl(a, count, width, frac, answer::manner(manner)))
 }
 
 #[no_mangle]
@@ -127,5 +128,5 @@ pub extern "C" fn tq_shr_unsigned(
 ) -> CUnsigned
     ensures { λ r. ⌜ Unsigned (UnsignedShr a count width frac (mannerOf manner)) r ⌝ }
 {
-    answer::unsigned(arith::unsigned::shr(a, count, width, frac, answer::manner(manner)))
+    answer::unsigned(shift::unsigned::shr(a, count, width, frac, answer::manner(manner)))
 }

@@ -3,10 +3,9 @@ ghost use mathlib.Core.Path.{_≡_};
 ghost use Prim.Native.Nat.{_^_, _/_, _≤_};
 ghost use lib.IntN.{pos};
 ghost use Rattle.laws.specs.Floor.{floor};
-ghost use Rattle.arith.specs.Exact.{exactOf};
+ghost use Rattle.exact.specs.Meaning.{exactOf};
 ghost use Rattle.convert.specs.Meaning.{stepsOf};
-use arith::exact;
-use arith::exact::Exact;
+use exact::Exact;
 
 pub(crate) fn signed(raw: i64, from_frac: u32, frac: u32) -> Exact
     requires { ⌜ («from_frac» ≤ 64) × (frac ≤ 64) ⌝ }

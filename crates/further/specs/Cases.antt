@@ -4,7 +4,8 @@ use mathlib.Core.Bool.{true, false}
 use lib.IntN.{pos, negsuc}
 use Rattle.format.specs.declared.Manner.the-variants.{Strict, Wrapping, Overflowing}
 use Rattle.format.specs.Meaning.{signed, unsigned, isWidth, faultOf, unless, lowest, highest, fits, wrap, settle, done, refused}
-use Rattle.arith.specs.Meaning.{orElse, divisorFault}
+use Rattle.exact.specs.Meaning.{orElse}
+use Rattle.arith.specs.Meaning.{divisorFault}
 use Rattle.whole.specs.Meaning.{bySize}
 use Rattle.further.specs.Meaning.{quotEuclid, absOf, signumOf, remEuclidOf, divEuclidOf, mulAddOf, distOf, meanOf}
 

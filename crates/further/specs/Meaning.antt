@@ -5,7 +5,8 @@ use lib.IntN.{ℤ, pos, negsuc, negℤ, natAbs, _+ℤ_, _-ℤ_, _*ℤ_}
 use Rattle.laws.specs.Floor.{floor}
 use Rattle.format.specs.declared.Manner.{Manner}
 use Rattle.format.specs.Meaning.{Sign, Outcome, faultOf, unless, settle}
-use Rattle.arith.specs.Meaning.{orElse, divisorFault}
+use Rattle.exact.specs.Meaning.{orElse}
+use Rattle.arith.specs.Meaning.{divisorFault}
 use Rattle.whole.specs.Meaning.{bySize, floorTo}
 
 -- "Returns the absolute value"

@@ -7,7 +7,7 @@ use native.Mathlib.Nat.{le-trans, lt-of-lt-of-le, div-le-self, mul-le-mul-left, 
 use lib.IntN.{ℤ, pos, negsuc, negℤ, natAbs, _+ℤ_}
 use Rattle.laws.specs.Floor.{floor}
 use Rattle.format.specs.Meaning.{withSign}
-use Rattle.arith.specs.Signs.{negated, abs-sign, one-word, sum-same, sum-apart, sum-turned}
+use Rattle.exact.specs.Signs.{negated, abs-sign, one-word, sum-same, sum-apart, sum-turned}
 use Rattle.further.specs.Meaning.{quotEuclid}
 
 pub via₃ : (op : ℤ → ℤ → ℤ → ℤ) {x y z r a b c : ℤ} → x ≡ a → y ≡ b → z ≡ c → r ≡ op x y z → r ≡ op a b c

@@ -5,11 +5,10 @@ ghost use Prim.Native.Nat.{_+_, _*_, _^_, _≤_, _<_, min};
 ghost use lib.IntN.{pos, natAbs, _+ℤ_, _-ℤ_, _*ℤ_};
 ghost use Rattle.laws.specs.Floor.{floor as floorIn};
 ghost use Rattle.format.specs.Meaning.{withSign};
-ghost use Rattle.arith.specs.Exact.{numberOf, exactOf};
+ghost use Rattle.exact.specs.Meaning.{numberOf, exactOf};
 ghost use Rattle.further.specs.Meaning.{signOf, remEuclid, quotEuclid};
-use arith::exact;
-use arith::exact::Exact;
-use arith::exact::Number;
+use exact::Exact;
+use exact::Number;
 use whole::units;
 use wide::Wide;
 

@@ -14,7 +14,7 @@ use Rattle.laws.specs.Nearest.{nearestBy, nearestEven}
 use Rattle.laws.specs.Order.{mul-out}
 use Rattle.laws.specs.Signed.{signed as kit}
 use Rattle.format.specs.Meaning.{withSign}
-use Rattle.arith.specs.Signs.{floor-zero}
+use Rattle.exact.specs.Signs.{floor-zero}
 use Rattle.whole.specs.Meaning.{nearestAway, bySize, floorTo, intPart, fracPart}
 
 -- ---- words: by 64 places and more nothing is left of the quotient, and all of the rest

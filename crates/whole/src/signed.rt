@@ -1,7 +1,6 @@
 // Whole numbers of a signed format.
 ghost use Rattle.whole.specs.Promise.{SignedFloor, SignedCeil, SignedRound, SignedEven, SignedInt, SignedFrac};
 use crate::units;
-use arith::exact;
 use format::Manner;
 use format::SignedAnswer;
 

@@ -7,11 +7,10 @@ ghost use lib.IntN.{pos, _-ℤ_};
 ghost use Rattle.laws.specs.Floor.{floor as floorIn};
 ghost use Rattle.laws.specs.Nearest.{nearestEven};
 ghost use Rattle.format.specs.Meaning.{withSign};
-ghost use Rattle.arith.specs.Exact.{numberOf, exactOf};
+ghost use Rattle.exact.specs.Meaning.{numberOf, exactOf};
 ghost use Rattle.whole.specs.Meaning.{nearestAway, floorTo, ceilTo, roundTo, evenTo, intPart, fracPart};
-use arith::exact;
-use arith::exact::Exact;
-use arith::exact::Number;
+use exact::Exact;
+use exact::Number;
 
 // x down to a whole number of 2^frac.
 pub fn floor(x: Number, frac: u32) -> Exact

@@ -1,7 +1,6 @@
 // Whole numbers of an unsigned format.
 ghost use Rattle.whole.specs.Promise.{UnsignedFloor, UnsignedCeil, UnsignedRound, UnsignedEven, UnsignedInt, UnsignedFrac};
 use crate::units;
-use arith::exact;
 use format::Manner;
 use format::UnsignedAnswer;
 

@@ -2,8 +2,8 @@
 use mathlib.Core.Path.{_∙_, ap₂}
 use mir.Syntax.{w64}
 use mir.Facts.{toZ-ofZ}
-use lib.IntN.{ℤ, negℤ, _+ℤ_}
-use Rattle.arith.specs.Settled.{settled-signed}
+use lib.IntN.{_+ℤ_}
+use Rattle.exact.specs.Settled.{settled-signed}
 use borrow.Author.Needs.{needs}
 use Rattle.arith.proofs.signed.add.Statement.{statement}
 use Rattle.arith.proofs.signed.add.Tie as tie

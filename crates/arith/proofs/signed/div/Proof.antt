@@ -6,9 +6,10 @@ use Prim.Native.Nat.{_^_}
 use lib.IntN.{ℤ, pos, _*ℤ_}
 use lib.Signed.{quotZ}
 use Rattle.format.specs.Answer.{fault-signed, pass-signed}
-use Rattle.arith.specs.Refusals.{met, divisor-none, at-divisor}
-use Rattle.arith.specs.Signs.{via₂, some-size}
-use Rattle.arith.specs.Settled.{fitted-signed}
+use Rattle.exact.specs.Refusals.{met}
+use Rattle.arith.specs.Refusals.{divisor-none, at-divisor}
+use Rattle.exact.specs.Signs.{via₂, some-size}
+use Rattle.exact.specs.Settled.{fitted-signed}
 use borrow.Author.Needs.{needs}
 use Rattle.arith.proofs.signed.div.Statement.{statement}
 use Rattle.arith.proofs.signed.div.Tie as tie

@@ -5,7 +5,7 @@ use mir.Facts.{toZ-ofZ}
 use Prim.Native.Nat.{_^_}
 use lib.IntN.{ℤ, _*ℤ_}
 use Rattle.laws.specs.Floor.{floor}
-use Rattle.arith.specs.Settled.{settled-signed}
+use Rattle.exact.specs.Settled.{settled-signed}
 use borrow.Author.Needs.{needs}
 use Rattle.arith.proofs.signed.mul.Statement.{statement}
 use Rattle.arith.proofs.signed.mul.Tie as tie

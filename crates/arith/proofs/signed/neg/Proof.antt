@@ -3,8 +3,8 @@ use mathlib.Core.Path.{_∙_}
 use mir.Syntax.{w64}
 use mir.Facts.{toZ-ofZ}
 use lib.IntN.{negℤ}
-use Rattle.arith.specs.Signs.{via}
-use Rattle.arith.specs.Settled.{settled-signed}
+use Rattle.exact.specs.Signs.{via}
+use Rattle.exact.specs.Settled.{settled-signed}
 use borrow.Author.Needs.{needs}
 use Rattle.arith.proofs.signed.neg.Statement.{statement}
 use Rattle.arith.proofs.signed.neg.Tie as tie

@@ -3,7 +3,7 @@ use mathlib.Core.Path.{_∙_, ap₂}
 use mir.Syntax.{w64}
 use mir.Facts.{toZ-ofZ}
 use lib.IntN.{ℤ, negℤ, _+ℤ_}
-use Rattle.arith.specs.Settled.{settled-signed}
+use Rattle.exact.specs.Settled.{settled-signed}
 use borrow.Author.Needs.{needs}
 use Rattle.arith.proofs.signed.sub.Statement.{statement}
 use Rattle.arith.proofs.signed.sub.Tie as tie

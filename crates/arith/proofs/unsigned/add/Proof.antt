@@ -1,7 +1,7 @@
 -- `arith::unsigned::add` meets its promise: the exact sum, settled. Assumes nothing.
 use lib.IntN.{_+ℤ_}
-use Rattle.arith.specs.Signs.{via₂}
-use Rattle.arith.specs.Settled.{settled-unsigned}
+use Rattle.exact.specs.Signs.{via₂}
+use Rattle.exact.specs.Settled.{settled-unsigned}
 use borrow.Author.Needs.{needs}
 use Rattle.arith.proofs.unsigned.add.Statement.{statement}
 use Rattle.arith.proofs.unsigned.add.Tie as tie

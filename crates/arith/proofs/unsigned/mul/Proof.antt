@@ -2,8 +2,8 @@
 use Prim.Native.Nat.{_^_}
 use lib.IntN.{ℤ, _*ℤ_}
 use Rattle.laws.specs.Floor.{floor}
-use Rattle.arith.specs.Signs.{via₂}
-use Rattle.arith.specs.Settled.{settled-unsigned}
+use Rattle.exact.specs.Signs.{via₂}
+use Rattle.exact.specs.Settled.{settled-unsigned}
 use borrow.Author.Needs.{needs}
 use Rattle.arith.proofs.unsigned.mul.Statement.{statement}
 use Rattle.arith.proofs.unsigned.mul.Tie as tie

@@ -1,8 +1,8 @@
 -- `arith::unsigned::neg` meets its promise: the other sign, settled. Assumes nothing.
 use mathlib.Core.Path.{_∙_}
 use lib.IntN.{negℤ}
-use Rattle.arith.specs.Signs.{via}
-use Rattle.arith.specs.Settled.{settled-unsigned}
+use Rattle.exact.specs.Signs.{via}
+use Rattle.exact.specs.Settled.{settled-unsigned}
 use borrow.Author.Needs.{needs}
 use Rattle.arith.proofs.unsigned.neg.Statement.{statement}
 use Rattle.arith.proofs.unsigned.neg.Tie as tie

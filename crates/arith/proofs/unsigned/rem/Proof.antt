@@ -2,9 +2,10 @@
 use lib.IntN.{ℤ}
 use lib.Signed.{remZ}
 use Rattle.format.specs.Answer.{fault-unsigned, pass-unsigned}
-use Rattle.arith.specs.Refusals.{met, divisor-none, at-divisor}
-use Rattle.arith.specs.Signs.{via₂, some-size}
-use Rattle.arith.specs.Settled.{fitted-unsigned}
+use Rattle.exact.specs.Refusals.{met}
+use Rattle.arith.specs.Refusals.{divisor-none, at-divisor}
+use Rattle.exact.specs.Signs.{via₂, some-size}
+use Rattle.exact.specs.Settled.{fitted-unsigned}
 use borrow.Author.Needs.{needs}
 use Rattle.arith.proofs.unsigned.rem.Statement.{statement}
 use Rattle.arith.proofs.unsigned.rem.Tie as tie

@@ -1,7 +1,7 @@
 -- `arith::unsigned::sub` meets its promise: the exact sum with the other sign, settled. Assumes nothing.
 use lib.IntN.{negℤ, _+ℤ_}
-use Rattle.arith.specs.Signs.{via, via₂}
-use Rattle.arith.specs.Settled.{settled-unsigned}
+use Rattle.exact.specs.Signs.{via, via₂}
+use Rattle.exact.specs.Settled.{settled-unsigned}
 use borrow.Author.Needs.{needs}
 use Rattle.arith.proofs.unsigned.sub.Statement.{statement}
 use Rattle.arith.proofs.unsigned.sub.Tie as tie

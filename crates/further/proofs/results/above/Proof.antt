@@ -1,7 +1,7 @@
 -- `further::results::above` meets its contract: 0 stays, and else down is one more in magnitude. Assumes nothing.
 use mathlib.Core.Path.{refl}
 use native.Mathlib.Omega.{arith}
-use Rattle.arith.specs.Signs.{floor-below}
+use Rattle.exact.specs.Signs.{floor-below}
 use Rattle.whole.specs.Units.{above-zero, above-fits}
 use borrow.Author.Needs.{needs}
 use Rattle.further.proofs.results.above.Statement.{statement}

@@ -1,7 +1,7 @@
 -- `further::results::abs` meets its contract: the magnitude, not negative. Assumes nothing.
 use mathlib.Core.Path.{_∙_, sym, ap}
 use lib.IntN.{pos}
-use Rattle.arith.specs.Signs.{abs-sign}
+use Rattle.exact.specs.Signs.{abs-sign}
 use borrow.Author.Needs.{needs}
 use Rattle.further.proofs.results.abs.Statement.{statement}
 use Rattle.further.proofs.results.abs.Tie as tie

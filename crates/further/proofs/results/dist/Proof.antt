@@ -2,7 +2,7 @@
 use mathlib.Core.Path.{_∙_, ap}
 use Prim.Native.Nat.{_+_, _*_, _^_}
 use lib.IntN.{ℤ, _+ℤ_}
-use Rattle.arith.specs.Exact.{numberOf}
+use Rattle.exact.specs.Meaning.{numberOf}
 use Rattle.further.specs.Results.{size-of}
 use borrow.Author.Needs.{needs}
 use Rattle.further.proofs.results.dist.Statement.{statement}

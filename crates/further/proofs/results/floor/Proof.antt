@@ -1,6 +1,6 @@
 -- `further::results::floor` meets its contract, by the sign. Assumes nothing.
 use mathlib.Core.Path.{refl}
-use Rattle.arith.specs.Signs.{floor-above, floor-turned}
+use Rattle.exact.specs.Signs.{floor-above, floor-turned}
 use borrow.Author.Needs.{needs}
 use Rattle.further.proofs.results.floor.Statement.{statement}
 use Rattle.further.proofs.results.floor.Tie as tie

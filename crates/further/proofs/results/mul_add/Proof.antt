@@ -5,8 +5,8 @@ use Prim.Native.Nat.{_+_, _*_, _^_}
 use lib.IntN.{ℤ, _+ℤ_}
 use Rattle.laws.specs.Floor.{floor}
 use Rattle.format.specs.Meaning.{withSign}
-use Rattle.arith.specs.Exact.{numberOf}
-use Rattle.arith.specs.Signs.{product-sign}
+use Rattle.exact.specs.Meaning.{numberOf}
+use Rattle.exact.specs.Signs.{product-sign}
 use Rattle.further.specs.Results.{room}
 use borrow.Author.Needs.{needs}
 use Rattle.further.proofs.results.mul_add.Statement.{statement}

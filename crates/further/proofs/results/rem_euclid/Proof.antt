@@ -2,8 +2,8 @@
 use mathlib.Core.Path.{_∙_, sym, ap}
 use Prim.Native.Nat.{ℕ}
 use lib.IntN.{_-ℤ_}
-use Rattle.arith.specs.Exact.{numberOf}
-use Rattle.arith.specs.Signs.{abs-sign}
+use Rattle.exact.specs.Meaning.{numberOf}
+use Rattle.exact.specs.Signs.{abs-sign}
 use Rattle.whole.specs.Meaning.{floorTo}
 use borrow.Author.Needs.{needs}
 use Rattle.further.proofs.results.rem_euclid.Statement.{statement}

@@ -5,9 +5,10 @@ use mir.Facts.{toZ-ofZ}
 use Prim.Native.Nat.{_^_}
 use lib.IntN.{ℤ, pos, _*ℤ_}
 use Rattle.format.specs.Answer.{fault-signed, pass-signed}
-use Rattle.arith.specs.Refusals.{met, divisor-none, at-divisor}
-use Rattle.arith.specs.Signs.{via₂, some-size}
-use Rattle.arith.specs.Settled.{fitted-signed}
+use Rattle.exact.specs.Refusals.{met}
+use Rattle.arith.specs.Refusals.{divisor-none, at-divisor}
+use Rattle.exact.specs.Signs.{via₂, some-size}
+use Rattle.exact.specs.Settled.{fitted-signed}
 use Rattle.further.specs.Meaning.{quotEuclid}
 use borrow.Author.Needs.{needs}
 use Rattle.further.proofs.signed.div_euclid.Statement.{statement}

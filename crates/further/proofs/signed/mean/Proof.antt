@@ -4,8 +4,8 @@ use mir.Syntax.{w64}
 use mir.Facts.{toZ-ofZ}
 use lib.IntN.{ℤ, _+ℤ_}
 use Rattle.laws.specs.Floor.{floor}
-use Rattle.arith.specs.Signs.{via₂}
-use Rattle.arith.specs.Settled.{settled-signed}
+use Rattle.exact.specs.Signs.{via₂}
+use Rattle.exact.specs.Settled.{settled-signed}
 use borrow.Author.Needs.{needs}
 use Rattle.further.proofs.signed.mean.Statement.{statement}
 use Rattle.further.proofs.signed.mean.Tie as tie

@@ -4,9 +4,10 @@ use mir.Syntax.{w64}
 use mir.Facts.{toZ-ofZ}
 use lib.IntN.{ℤ}
 use Rattle.format.specs.Answer.{fault-signed, pass-signed}
-use Rattle.arith.specs.Refusals.{met, divisor-none, at-divisor}
-use Rattle.arith.specs.Signs.{via₂, some-size}
-use Rattle.arith.specs.Settled.{fitted-signed}
+use Rattle.exact.specs.Refusals.{met}
+use Rattle.arith.specs.Refusals.{divisor-none, at-divisor}
+use Rattle.exact.specs.Signs.{via₂, some-size}
+use Rattle.exact.specs.Settled.{fitted-signed}
 use Rattle.further.specs.Meaning.{remEuclid}
 use borrow.Author.Needs.{needs}
 use Rattle.further.proofs.signed.rem_euclid.Statement.{statement}

@@ -5,8 +5,8 @@ use mir.Facts.{toZ-ofZ}
 use Prim.Native.Nat.{_^_}
 use lib.IntN.{ℤ, pos, _*ℤ_}
 use Rattle.format.specs.Answer.{fault-signed}
-use Rattle.arith.specs.Refusals.{checked}
-use Rattle.arith.specs.Settled.{one-signed}
+use Rattle.exact.specs.Refusals.{checked}
+use Rattle.exact.specs.Settled.{one-signed}
 use Rattle.further.specs.Meaning.{signOf}
 use borrow.Author.Needs.{needs}
 use Rattle.further.proofs.signed.signum.Statement.{statement}

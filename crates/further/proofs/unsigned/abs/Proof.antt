@@ -1,7 +1,7 @@
 -- `further::unsigned::abs` meets its promise: the magnitude, settled. Assumes nothing.
 use lib.IntN.{ℤ, pos, natAbs}
-use Rattle.arith.specs.Signs.{via}
-use Rattle.arith.specs.Settled.{settled-unsigned}
+use Rattle.exact.specs.Signs.{via}
+use Rattle.exact.specs.Settled.{settled-unsigned}
 use borrow.Author.Needs.{needs}
 use Rattle.further.proofs.unsigned.abs.Statement.{statement}
 use Rattle.further.proofs.unsigned.abs.Tie as tie

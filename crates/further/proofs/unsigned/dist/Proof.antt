@@ -1,7 +1,7 @@
 -- `further::unsigned::dist` meets its promise: the distance, settled. Assumes nothing.
 use lib.IntN.{ℤ, pos, natAbs, _-ℤ_}
-use Rattle.arith.specs.Signs.{via₂}
-use Rattle.arith.specs.Settled.{settled-unsigned}
+use Rattle.exact.specs.Signs.{via₂}
+use Rattle.exact.specs.Settled.{settled-unsigned}
 use borrow.Author.Needs.{needs}
 use Rattle.further.proofs.unsigned.dist.Statement.{statement}
 use Rattle.further.proofs.unsigned.dist.Tie as tie

@@ -1,8 +1,8 @@
 -- `further::unsigned::mean` meets its promise: the mean, settled. Assumes nothing.
 use lib.IntN.{ℤ, _+ℤ_}
 use Rattle.laws.specs.Floor.{floor}
-use Rattle.arith.specs.Signs.{via₂}
-use Rattle.arith.specs.Settled.{settled-unsigned}
+use Rattle.exact.specs.Signs.{via₂}
+use Rattle.exact.specs.Settled.{settled-unsigned}
 use borrow.Author.Needs.{needs}
 use Rattle.further.proofs.unsigned.mean.Statement.{statement}
 use Rattle.further.proofs.unsigned.mean.Tie as tie

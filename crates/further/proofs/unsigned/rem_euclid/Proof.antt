@@ -1,9 +1,10 @@
 -- `further::unsigned::rem_euclid` meets its promise: the refusals first, then the Euclidean remainder, fitted. Assumes nothing.
 use lib.IntN.{ℤ}
 use Rattle.format.specs.Answer.{fault-unsigned, pass-unsigned}
-use Rattle.arith.specs.Refusals.{met, divisor-none, at-divisor}
-use Rattle.arith.specs.Signs.{via₂, some-size}
-use Rattle.arith.specs.Settled.{fitted-unsigned}
+use Rattle.exact.specs.Refusals.{met}
+use Rattle.arith.specs.Refusals.{divisor-none, at-divisor}
+use Rattle.exact.specs.Signs.{via₂, some-size}
+use Rattle.exact.specs.Settled.{fitted-unsigned}
 use Rattle.further.specs.Meaning.{remEuclid}
 use borrow.Author.Needs.{needs}
 use Rattle.further.proofs.unsigned.rem_euclid.Statement.{statement}

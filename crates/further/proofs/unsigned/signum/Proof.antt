@@ -2,8 +2,8 @@
 use Prim.Native.Nat.{_^_}
 use lib.IntN.{ℤ, pos, _*ℤ_}
 use Rattle.format.specs.Answer.{fault-unsigned}
-use Rattle.arith.specs.Refusals.{checked}
-use Rattle.arith.specs.Settled.{one-unsigned}
+use Rattle.exact.specs.Refusals.{checked}
+use Rattle.exact.specs.Settled.{one-unsigned}
 use Rattle.further.specs.Meaning.{signOf}
 use borrow.Author.Needs.{needs}
 use Rattle.further.proofs.unsigned.signum.Statement.{statement}

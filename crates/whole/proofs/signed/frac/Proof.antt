@@ -3,8 +3,8 @@ use mathlib.Core.Path.{_∙_}
 use mir.Syntax.{w64}
 use mir.Facts.{toZ-ofZ}
 use Rattle.format.specs.Answer.{fault-signed}
-use Rattle.arith.specs.Refusals.{checked}
-use Rattle.arith.specs.Settled.{one-signed}
+use Rattle.exact.specs.Refusals.{checked}
+use Rattle.exact.specs.Settled.{one-signed}
 use Rattle.whole.specs.Meaning.{fracPart}
 use borrow.Author.Needs.{needs}
 use Rattle.whole.proofs.signed.frac.Statement.{statement}

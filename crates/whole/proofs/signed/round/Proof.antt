@@ -5,8 +5,8 @@ use mir.Facts.{toZ-ofZ}
 use Prim.Native.Nat.{_^_}
 use lib.IntN.{ℤ}
 use Rattle.format.specs.Answer.{fault-signed}
-use Rattle.arith.specs.Refusals.{checked}
-use Rattle.arith.specs.Settled.{one-signed}
+use Rattle.exact.specs.Refusals.{checked}
+use Rattle.exact.specs.Settled.{one-signed}
 use Rattle.whole.specs.Meaning.{roundTo}
 use borrow.Author.Needs.{needs}
 use Rattle.whole.proofs.signed.round.Statement.{statement}

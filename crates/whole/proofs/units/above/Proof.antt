@@ -2,7 +2,7 @@
 use mathlib.Core.Path.{refl}
 use native.Mathlib.Omega.{arith}
 use Prim.Native.Nat.{_^_}
-use Rattle.arith.specs.Signs.{floor-below}
+use Rattle.exact.specs.Signs.{floor-below}
 use Rattle.whole.specs.Units.{above-zero, above-fits}
 use borrow.Author.Needs.{needs}
 use Rattle.whole.proofs.units.above.Statement.{statement}

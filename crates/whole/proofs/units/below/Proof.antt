@@ -1,5 +1,5 @@
 -- `whole::units::below` meets its contract, by the sign. Assumes nothing.
-use Rattle.arith.specs.Signs.{floor-above, floor-turned}
+use Rattle.exact.specs.Signs.{floor-above, floor-turned}
 use borrow.Author.Needs.{needs}
 use Rattle.whole.proofs.units.below.Statement.{statement}
 use Rattle.whole.proofs.units.below.Tie as tie

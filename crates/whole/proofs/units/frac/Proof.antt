@@ -1,6 +1,6 @@
 -- `whole::units::frac` meets its contract: the number itself without integer bits, and else what is left above the floor. Assumes nothing.
 use mathlib.Core.Path.{_∙_}
-use Rattle.arith.specs.Exact.{numberOf}
+use Rattle.exact.specs.Meaning.{numberOf}
 use Rattle.whole.specs.Units.{frac-none, frac-some}
 use borrow.Author.Needs.{needs}
 use Rattle.whole.proofs.units.frac.Statement.{statement}

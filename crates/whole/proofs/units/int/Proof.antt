@@ -1,5 +1,5 @@
 -- `whole::units::int` meets its contract: 0 without integer bits, and else the floor. Assumes nothing.
-use Rattle.arith.specs.Exact.{numberOf}
+use Rattle.exact.specs.Meaning.{numberOf}
 use Rattle.whole.specs.Units.{int-none, int-some}
 use borrow.Author.Needs.{needs}
 use Rattle.whole.proofs.units.int.Statement.{statement}

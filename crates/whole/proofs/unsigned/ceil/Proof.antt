@@ -2,8 +2,8 @@
 use Prim.Native.Nat.{_^_}
 use lib.IntN.{ℤ}
 use Rattle.format.specs.Answer.{fault-unsigned}
-use Rattle.arith.specs.Refusals.{checked}
-use Rattle.arith.specs.Settled.{one-unsigned}
+use Rattle.exact.specs.Refusals.{checked}
+use Rattle.exact.specs.Settled.{one-unsigned}
 use Rattle.whole.specs.Meaning.{ceilTo}
 use borrow.Author.Needs.{needs}
 use Rattle.whole.proofs.unsigned.ceil.Statement.{statement}

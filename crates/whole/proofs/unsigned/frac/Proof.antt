@@ -1,7 +1,7 @@
 -- `whole::unsigned::frac` meets its promise: the format's refusals, then the fraction, fitted. Assumes nothing.
 use Rattle.format.specs.Answer.{fault-unsigned}
-use Rattle.arith.specs.Refusals.{checked}
-use Rattle.arith.specs.Settled.{one-unsigned}
+use Rattle.exact.specs.Refusals.{checked}
+use Rattle.exact.specs.Settled.{one-unsigned}
 use Rattle.whole.specs.Meaning.{fracPart}
 use borrow.Author.Needs.{needs}
 use Rattle.whole.proofs.unsigned.frac.Statement.{statement}

@@ -1,0 +1,5 @@
+pub mod Bytes
+pub mod Cases
+pub mod Meaning
+pub mod Promise
+pub mod Theorems

@@ -1,0 +1,5 @@
+pub mod Meaning
+pub mod Refusals
+pub mod Settled
+pub mod Signs
+pub mod Theorems

@@ -1,0 +1,6 @@
+pub mod Cases
+pub mod Meaning
+pub mod Promise
+pub mod Refusals
+pub mod Settled
+pub mod Shift
