@@ -14,7 +14,6 @@ ROOT = Path(__file__).resolve().parent.parent
 CRATES = ROOT / "crates"
 INDEX = (ROOT / "docs/PROMISES.md").read_text()
 PAGES = {page.stem: page.read_text() for page in sorted((ROOT / "docs/promises").glob("*.md"))}
-OWNER = {"to_float": "float"}  # pages that are not named after their crate
 FUNCTION = re.compile(r'^pub (?:extern "C" )?fn (\w+)(.*?)(?:^| )\{$', re.M | re.S)
 INNER = re.compile(r"^pub\(crate\) fn (\w+)(.*?)(?:^| )\{$", re.M | re.S)
 PATH = re.compile(r"(?<![\w/.])(?:(?:crates|oracle|docs|include|tests|bindings|specs|proofs|must-fail)/[\w./-]*\w|\w+\.antt)")
@@ -134,10 +133,10 @@ for lib in sorted(CRATES.glob("*/src/lib.rt")):
 inner()
 paths("docs/PROMISES.md", INDEX, None)
 for stem, text in PAGES.items():
-    paths(f"docs/promises/{stem}.md", text, CRATES / OWNER.get(stem, stem))
-    names(f"docs/promises/{stem}.md", text, CRATES / OWNER.get(stem, stem))
+    paths(f"docs/promises/{stem}.md", text, CRATES / stem)
+    names(f"docs/promises/{stem}.md", text, CRATES / stem)
 for edit in sorted(CRATES.glob("*/must-fail/*.edit")):
-    own = [text for stem, text in PAGES.items() if OWNER.get(stem, stem) == edit.parent.parent.name] or PAGES.values()
+    own = [text for stem, text in PAGES.items() if stem == edit.parent.parent.name] or PAGES.values()
     see(any(edit.stem in words(text) for text in own), f"{edit.relative_to(ROOT)} is on no page")
 declared = set(re.findall(r"\b(tq_\w+)\s*\(", (ROOT / "include/tamqoret.h").read_text()))
 exported = {name for _, name, _ in public(CRATES / "capi")}

@@ -1,4 +1,4 @@
-/* The cases of crates/convert/specs/Cases.antt and crates/float/specs/ToCases.antt through the archive; and every I1F15 raw to patterns and a
+/* The cases of crates/convert/specs/Cases.antt and crates/to_float/specs/Cases.antt through the archive; and every I1F15 raw to patterns and a
  * wider format, and back. */
 #include "check.h"
 #include "tamqoret.h"

@@ -1,4 +1,4 @@
-/* The cases of crates/float/specs/Cases.antt through the archive: a pattern, a manner, a format and the answer. */
+/* The cases of crates/from_float/specs/Cases.antt through the archive: a pattern, a manner, a format and the answer. */
 #include "check.h"
 #include "tamqoret.h"
 

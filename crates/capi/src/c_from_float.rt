@@ -1,5 +1,5 @@
 // tq_from_f32_S and tq_from_f64_S: patterns into a format, in the manner that its number stands for.
-ghost use Rattle.float.specs.Promise.{SignedF32, SignedF64, UnsignedF32, UnsignedF64};
+ghost use Rattle.from_float.specs.Promise.{SignedF32, SignedF64, UnsignedF32, UnsignedF64};
 ghost use Rattle.capi.specs.Answer.{Signed, Unsigned, mannerOf};
 use crate::answer;
 use crate::answer::CSigned;
@@ -9,14 +9,14 @@ use crate::answer::CUnsigned;
 pub extern "C" fn tq_from_f32_signed(pattern: u32, width: u32, frac: u32, manner: u32) -> CSigned
     ensures { λ r. ⌜ Signed (SignedF32 pattern width frac (mannerOf manner)) r ⌝ }
 {
-    answer::signed(float::signed::from_f32(pattern, width, frac, answer::manner(manner)))
+    answer::signed(from_float::signed::from_f32(pattern, width, frac, answer::manner(manner)))
 }
 
 #[no_mangle]
 pub extern "C" fn tq_from_f64_signed(pattern: u64, width: u32, frac: u32, manner: u32) -> CSigned
     ensures { λ r. ⌜ Signed (SignedF64 pattern width frac (mannerOf manner)) r ⌝ }
 {
-    answer::signed(float::signed::from_f64(pattern, width, frac, answer::manner(manner)))
+    answer::signed(from_float::signed::from_f64(pattern, width, frac, answer::manner(manner)))
 }
 
 #[no_mangle]
@@ -28,7 +28,7 @@ pub extern "C" fn tq_from_f32_unsigned(
 ) -> CUnsigned
     ensures { λ r. ⌜ Unsigned (UnsignedF32 pattern width frac (mannerOf manner)) r ⌝ }
 {
-    answer::unsigned(float::unsigned::from_f32(pattern, width, frac, answer::manner(manner)))
+    answer::unsigned(from_float::unsigned::from_f32(pattern, width, frac, answer::manner(manner)))
 }
 
 #[no_mangle]
@@ -40,5 +40,5 @@ pub extern "C" fn tq_from_f64_unsigned(
 ) -> CUnsigned
     ensures { λ r. ⌜ Unsigned (UnsignedF64 pattern width frac (mannerOf manner)) r ⌝ }
 {
-    answer::unsigned(float::unsigned::from_f64(pattern, width, frac, answer::manner(manner)))
+    answer::unsigned(from_float::unsigned::from_f64(pattern, width, frac, answer::manner(manner)))
 }

@@ -1,5 +1,5 @@
 // tq_to_f32_S, tq_to_f64_S: the pattern of a raw's number.
-ghost use Rattle.float.specs.ToPattern.{SignedToF32, SignedToF64, UnsignedToF32, UnsignedToF64};
+ghost use Rattle.to_float.specs.Promise.{SignedToF32, SignedToF64, UnsignedToF32, UnsignedToF64};
 ghost use Rattle.capi.specs.Answer.{Unsigned};
 use crate::answer;
 use crate::answer::CUnsigned;
@@ -8,26 +8,26 @@ use crate::answer::CUnsigned;
 pub extern "C" fn tq_to_f32_signed(raw: i64, width: u32, frac: u32) -> CUnsigned
     ensures { λ r. ⌜ Unsigned (SignedToF32 raw width frac) r ⌝ }
 {
-    answer::unsigned(float::signed::to_f32(raw, width, frac))
+    answer::unsigned(to_float::signed::to_f32(raw, width, frac))
 }
 
 #[no_mangle]
 pub extern "C" fn tq_to_f32_unsigned(raw: u64, width: u32, frac: u32) -> CUnsigned
     ensures { λ r. ⌜ Unsigned (UnsignedToF32 raw width frac) r ⌝ }
 {
-    answer::unsigned(float::unsigned::to_f32(raw, width, frac))
+    answer::unsigned(to_float::unsigned::to_f32(raw, width, frac))
 }
 
 #[no_mangle]
 pub extern "C" fn tq_to_f64_signed(raw: i64, width: u32, frac: u32) -> CUnsigned
     ensures { λ r. ⌜ Unsigned (SignedToF64 raw width frac) r ⌝ }
 {
-    answer::unsigned(float::signed::to_f64(raw, width, frac))
+    answer::unsigned(to_float::signed::to_f64(raw, width, frac))
 }
 
 #[no_mangle]
 pub extern "C" fn tq_to_f64_unsigned(raw: u64, width: u32, frac: u32) -> CUnsigned
     ensures { λ r. ⌜ Unsigned (UnsignedToF64 raw width frac) r ⌝ }
 {
-    answer::unsigned(float::unsigned::to_f64(raw, width, frac))
+    answer::unsigned(to_float::unsigned::to_f64(raw, width, frac))
 }

@@ -1,8 +1,2 @@
-pub mod Cuts
-pub mod Exps
-pub mod Firsts
-pub mod Moves
-pub mod Places
-pub mod Spans
 pub mod Steps
 pub mod Turns

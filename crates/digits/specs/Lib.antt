@@ -1,9 +1,5 @@
 pub mod Cases
-pub mod Inner
 pub mod Meaning
 pub mod Promise
 pub mod Runs
-pub mod Second
 pub mod Theorems
-pub mod Value
-pub mod Zeros

@@ -1,5 +1,5 @@
--- What a digit view is: document 01, module 1. A run is the list of the bytes between two places of the text. (The second layer is in Second.antt.)
--- Assumes nothing.
+-- What a digit view is: document 01, module 1. A run is the list of the bytes between two places of the text.
+-- (The second layer is the crate `digits_exp`.) Assumes nothing.
 use mathlib.Core.Path.{_≡_}
 use mathlib.Core.Bool.{Bool, false, cond}
 use mathlib.Core.List.{List, [], _∷_, reverse}

@@ -5,7 +5,7 @@ ghost use lib.ListN.{length};
 ghost use Rattle.digits.specs.Meaning.{isUnd, takeWhile, headOf};
 
 // How many `_` stand in front.
-pub(crate) fn unds_front(run: &[u8]) -> usize
+pub fn unds_front(run: &[u8]) -> usize
     ensures { λ r. ⌜ r ≡ length (takeWhile isUnd (now (run .entry))) ⌝ }
 {
     let mut i: usize = 0;
@@ -33,7 +33,7 @@ pub(crate) fn unds_behind(run: &[u8]) -> usize
 }
 
 // How many bytes there are up to the digit number `mid`, and with it: all where there are fewer digits.
-pub(crate) fn place(run: &[u8], mid: usize) -> usize
+pub fn place(run: &[u8], mid: usize) -> usize
     ensures { λ r. ⌜ r ≡ length (headOf (now (run .entry)) mid) ⌝ }
 {
     let mut wanted = mid;

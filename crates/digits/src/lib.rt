@@ -1,12 +1,8 @@
 // Digit views (S's `DigitsUnds`): a view is a part of the lent text with no `_` at either end. Every function takes any run, also one that is no view.
 ghost use Rattle.digits.specs.Promise.{New, Len, Upto, From, First, AfterFirst, Last, BeforeLast, LeadingZeros, WithoutLeadingZeros, TrailingZeros, WithoutTrailingZeros};
 
-mod count;
-pub mod exp;
-mod moving;
-mod part;
-mod span;
-mod splitting;
+pub mod count;
+pub mod part;
 
 // The digit at an end of a view, if there is one.
 pub enum Digit {

@@ -2,11 +2,10 @@
 ghost use mathlib.Core.Path.{_≡_};
 ghost use lib.ListN.{take, drop};
 ghost use Rattle.digits.specs.Meaning.{firstOf, lastOf};
-ghost use Rattle.digits.specs.Second.{part};
 use super::Digit;
 
 // The first n bytes.
-pub(crate) fn head(run: &[u8], n: usize) -> &[u8]
+pub fn head(run: &[u8], n: usize) -> &[u8]
     ensures { λ r. ⌜ now r ≡ take n (now (run .entry)) ⌝ }
 {
     if n <= run.len() {
@@ -16,7 +15,7 @@ pub(crate) fn head(run: &[u8], n: usize) -> &[u8]
 }
 
 // The bytes after the first n.
-pub(crate) fn rest(run: &[u8], n: usize) -> &[u8]
+pub fn rest(run: &[u8], n: usize) -> &[u8]
     ensures { λ r. ⌜ now r ≡ drop n (now (run .entry)) ⌝ }
 {
     if n <= run.len() {
@@ -43,14 +42,4 @@ pub(crate) fn last_byte(run: &[u8]) -> Digit
         return Digit::Is(run[run.len() - 1]);
     }
     Digit::Nothing
-}
-
-// The bytes from `from` up to `to`.
-pub(crate) fn between(run: &[u8], from: usize, to: usize) -> &[u8]
-    ensures { λ r. ⌜ now r ≡ part (now (run .entry)) from to ⌝ }
-{
-    if to <= from {
-        return head(run, 0);
-    }
-    head(rest(run, from), to - from)
 }

@@ -1,4 +1,3 @@
--- What the proofs of more than one function use.
-mod Encodes
-mod Masks
-mod Scaling
+-- What the proofs of more than one function use, those of `to_float` too.
+pub mod Masks
+pub mod Scaling

@@ -12,7 +12,7 @@ use Rattle.wide.specs.declared.Wide.{Wide}
 use Rattle.wide.specs.Meaning.{valueOf}
 use Rattle.format.specs.Place.{masked}
 use Rattle.float.specs.Folds.{Folds}
-use Rattle.float.specs.Encoding.{scaled-few}
+use Rattle.float.specs.Scaled.{scaled-few}
 
 -- ---- by the remainder: one law for each way out
 module _ (q r d : ℕ) where

@@ -1,11 +1,6 @@
-pub mod Cases
-pub mod Encoding
 pub mod Folds
 pub mod Kit
 pub mod Meaning
 pub mod Parts
-pub mod Promise
+pub mod Scaled
 pub mod Theorems
-pub mod ToCases
-pub mod ToPattern
-pub mod ToTheorems

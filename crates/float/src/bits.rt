@@ -2,7 +2,7 @@
 ghost use mathlib.Core.Path.{_≡_};
 ghost use Prim.Native.Nat.{_-_, _^_, _≤_};
 
-pub(crate) fn power(k: u32) -> u64
+pub fn power(k: u32) -> u64
     requires { ⌜ k ≤ 63 ⌝ }
     ensures { λ r. ⌜ r ≡ 2 ^ k ⌝ }
 {
@@ -10,7 +10,7 @@ pub(crate) fn power(k: u32) -> u64
 }
 
 // The k low bits set.
-pub(crate) fn ones(k: u32) -> u64
+pub fn ones(k: u32) -> u64
     requires { ⌜ k ≤ 63 ⌝ }
     ensures { λ r. ⌜ r ≡ 2 ^ k - 1 ⌝ }
 {

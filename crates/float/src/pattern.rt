@@ -8,21 +8,21 @@ use crate::bits;
 use crate::rounding;
 use wide::Wide;
 
-pub(crate) fn negative(pattern: u64, precision: u32, field: u32) -> bool
+pub fn negative(pattern: u64, precision: u32, field: u32) -> bool
     requires { ⌜ Small precision field ⌝ }
     ensures { λ r. ⌜ r ≡ negativeOf (binary precision field) pattern ⌝ }
 {
     bits::power(field + (precision - 1)) <= pattern
 }
 
-pub(crate) fn biased(pattern: u64, precision: u32, field: u32) -> u32
+pub fn biased(pattern: u64, precision: u32, field: u32) -> u32
     requires { ⌜ Small precision field ⌝ }
     ensures { λ r. ⌜ r ≡ biasedOf (binary precision field) pattern ⌝ }
 {
     ((pattern >> (precision - 1)) & bits::ones(field)) as u32
 }
 
-pub(crate) fn trailing(pattern: u64, precision: u32, field: u32) -> u64
+pub fn trailing(pattern: u64, precision: u32, field: u32) -> u64
     requires { ⌜ Small precision field ⌝ }
     ensures { λ r. ⌜ r ≡ trailingOf (binary precision field) pattern ⌝ }
 {
@@ -30,7 +30,7 @@ pub(crate) fn trailing(pattern: u64, precision: u32, field: u32) -> u64
 }
 
 // E of an infinity or a NaN.
-pub(crate) fn last(field: u32) -> u32
+pub fn last(field: u32) -> u32
     requires { ⌜ field ≤ 11 ⌝ }
     ensures { λ r. ⌜ r ≡ 2 ^ field - 1 ⌝ }
 {
@@ -38,7 +38,7 @@ pub(crate) fn last(field: u32) -> u32
 }
 
 // The magnitude x 2^frac, rounded: an infinity counts as 2^64, which is past every format.
-pub(crate) fn magnitude(pattern: u64, precision: u32, field: u32, frac: u32) -> Wide
+pub fn magnitude(pattern: u64, precision: u32, field: u32, frac: u32) -> Wide
     requires { ⌜ Small precision field × (frac ≤ 64) ⌝ }
     ensures { λ r. ⌜ Folds (magnitudeOf (binary precision field) frac pattern) r ⌝ }
 {
@@ -72,7 +72,7 @@ fn place(e: u32) -> u32
 }
 
 // The least positive number is 2^-least.
-pub(crate) fn least(precision: u32, field: u32) -> u32
+pub fn least(precision: u32, field: u32) -> u32
     requires { ⌜ Small precision field ⌝ }
     ensures { λ r. ⌜ r ≡ leastOf (binary precision field) ⌝ }
 {

@@ -1,6 +1,6 @@
 // A word times 2^up over 2^down, to the nearest whole number, ties to even.
 ghost use mathlib.Core.Path.{_≡_};
-ghost use Prim.Native.Nat.{_*_, _^_, _<_, _≤_};
+ghost use Prim.Native.Nat.{_*_, _^_, _<_};
 ghost use Rattle.laws.specs.Nearest.{nearestEven, nearestBy};
 ghost use Rattle.float.specs.Folds.{Folds};
 use crate::bits;
@@ -35,7 +35,7 @@ fn nearest(m: u64, k: u32) -> u64
     0
 }
 
-pub(crate) fn by_rest(whole: u64, rest: u64, unit: u64) -> u64
+pub fn by_rest(whole: u64, rest: u64, unit: u64) -> u64
     requires { ⌜ (whole < 2 ^ 63) × (rest < 2 ^ 63) ⌝ }
     ensures { λ r. ⌜ r ≡ nearestBy whole rest unit ⌝ }
 {

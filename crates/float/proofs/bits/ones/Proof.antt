@@ -1,12 +1,6 @@
 -- `float::bits::ones` meets its contract. Assumes nothing.
 use native.Mathlib.Omega.{arith}
 use lib.Pow.{pow-pos}
--- `float::bits::ones` meets its contract. Assumes nothing.
-use native.Mathlib.Omega.{arith}
-use lib.Pow.{pow-pos}
--- `float::bits::ones` meets its contract. Assumes nothing.
-use native.Mathlib.Omega.{arith}
-use lib.Pow.{pow-pos}
 use borrow.Author.Needs.{needs}
 use Rattle.float.proofs.bits.ones.Statement.{statement}
 use Rattle.float.proofs.bits.ones.Tie as tie

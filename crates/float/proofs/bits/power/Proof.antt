@@ -1,9 +1,5 @@
 -- `float::bits::power` meets its contract: below 64 places a power of two is one word. Assumes nothing.
 use Rattle.float.proofs.Masks.{one-word}
--- `float::bits::power` meets its contract: below 64 places a power of two is one word. Assumes nothing.
-use Rattle.float.proofs.Masks.{one-word}
--- `float::bits::power` meets its contract: below 64 places a power of two is one word. Assumes nothing.
-use Rattle.float.proofs.Masks.{one-word}
 use borrow.Author.Needs.{needs}
 use Rattle.float.proofs.bits.power.Statement.{statement}
 use Rattle.float.proofs.bits.power.Tie as tie
