@@ -26,16 +26,6 @@ sepOf false = Error
 abbrev pub inRun : Bool → ℕ → ℕ → Bool
 inRun skip radix b = isDigit radix b || (skip && eqb b 95)
 
-module _ (skip : Bool) (radix b : ℕ) {d : Bool} (e : d ≡ isDigit radix b) where
-  pub in-run-digit : d ≡ true → true ≡ inRun skip radix b
-  in-run-digit t = rw (sym e ∙ t)
-
-  pub in-run-under : d ≡ false → skip ≡ true → eqb b 95 ≡ inRun skip radix b
-  in-run-under t s = rw (sym e ∙ t, s)
-
-  pub in-run-none : d ≡ false → skip ≡ false → false ≡ inRun skip radix b
-  in-run-none t s = rw (sym e ∙ t, s)
-
 -- how many bytes the rest of a run has, and how many a run has: it starts with a digit
 unfoldable pub runMore : Bool → ℕ → List ℕ → ℕ
 runMore skip radix [] = 0

@@ -16,7 +16,7 @@ use Rattle.grammar.specs.Meaning.{num, den, rawOf, textLimit}
 use Rattle.grammar.specs.Naturals.{natOf}
 use Rattle.text.specs.declared.fold.Folded.{Folded}
 use Rattle.text.specs.Fold.{foldOf, valueOf, fold-times}
-use Rattle.grammar.specs.Found.{bodyOf}
+use Rattle.scan.specs.Found.{bodyOf}
 use Rattle.text.specs.Body.{asWritten, Taken, body-length}
 use Rattle.text.specs.Cut.{numberOf, Digits, pow-pow}
 

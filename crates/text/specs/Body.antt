@@ -11,7 +11,7 @@ use lib.Seq.{drop-cons, take-suc, getD-drop, drop-drop}
 use borrow.Author.Tests.{eq-eqb, ne-eqb, ltb-true, ltb-false}
 use Rattle.grammar.specs.Meaning.{Written, digitOf, natFrom}
 use Rattle.grammar.specs.Naturals.{natOf, natFrom-snoc}
-use Rattle.grammar.specs.Found.{bodyOf}
+use Rattle.scan.specs.Found.{bodyOf}
 use Rattle.text.specs.declared.fold.Folded.{Folded}
 use Rattle.text.specs.Fold.{foldOf, valueOf, fold-step}
 

@@ -20,7 +20,7 @@ use Rattle.text.specs.declared.fold.Order.{Order}
 use Rattle.text.specs.declared.fold.Order.the-variants.{Less, Same, More}
 use Rattle.text.specs.Round.{orderOf, roundBy, order-less, order-more, order-same, nearest-middle}
 use Rattle.text.specs.Fold.{foldOf, valueOf, fold-step, fold-round}
-use Rattle.grammar.specs.Found.{bodyOf}
+use Rattle.scan.specs.Found.{bodyOf}
 use Rattle.text.specs.Body.{digitsFrom, anyOf, Next, Taken}
 use Rattle.text.specs.Numbers.{nat-around, any-none, any-some, drop-digits}
 

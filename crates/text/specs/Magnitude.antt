@@ -14,8 +14,8 @@ use Rattle.grammar.specs.Meaning.{expLimit, num, den, rawOf, isRadix, textLimit
 use Rattle.grammar.specs.Automaton.{Part, whole, fraction, exponent}
 use Rattle.grammar.specs.Naturals.{natOf}
 use Rattle.grammar.specs.Accepted.{TenIs, sound-exp, sound-bases}
-use Rattle.grammar.specs.Found.{bodyOf, part, spanOf, writtenOf}
-use Rattle.grammar.specs.declared.scan.Parsed.{Parsed}
+use Rattle.scan.specs.Found.{bodyOf, part, spanOf, writtenOf}
+use Rattle.scan.specs.declared.Parsed.{Parsed}
 use Rattle.text.specs.Body.{asWritten, body-length}
 use Rattle.text.specs.Bits.{Legal}
 use Rattle.text.specs.Point.{decimal}

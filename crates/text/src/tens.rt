@@ -7,7 +7,7 @@ ghost use Rattle.laws.specs.Nearest.{nearestEven};
 ghost use Rattle.grammar.specs.Meaning.{rawOf, textLimit};
 ghost use Rattle.grammar.specs.Naturals.{natOf};
 ghost use Rattle.text.specs.Fold.{foldOf, valueOf};
-ghost use Rattle.grammar.specs.Found.{bodyOf};
+ghost use Rattle.scan.specs.Found.{bodyOf};
 ghost use Rattle.text.specs.Body.{digitsFrom};
 ghost use Rattle.text.specs.Digits.{Small};
 ghost use Rattle.text.specs.Point.{decimal};

@@ -5,7 +5,7 @@ use Prim.Native.Nat.{_+_, _-_}
 use native.Mathlib.Omega.{arith}
 use lib.ListN.{length}
 use borrow.Author.Needs.{needs}
-use Rattle.grammar.specs.Found.{bodyOf}
+use Rattle.scan.specs.Found.{bodyOf}
 use Rattle.text.specs.Tens.{below-cut, below-some, below-none, below-far}
 use Rattle.text.proofs.tens.below.Statement.{statement}
 use Rattle.text.proofs.tens.below.Tie as tie

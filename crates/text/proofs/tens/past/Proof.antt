@@ -1,6 +1,6 @@
 -- `tens::past` meets its contract: all digits, the zeros after them, and 2^frac, each folded (`past-folded`). Assumes nothing.
 use borrow.Author.Needs.{needs}
-use Rattle.grammar.specs.Found.{bodyOf}
+use Rattle.scan.specs.Found.{bodyOf}
 use Rattle.text.specs.Tens.{past-folded}
 use Rattle.text.proofs.tens.past.Statement.{statement}
 use Rattle.text.proofs.tens.past.Tie as tie

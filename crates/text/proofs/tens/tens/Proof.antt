@@ -1,7 +1,7 @@
 -- `tens::tens` meets its contract: where the exponent puts the point (`Point`), and the raw of each case. Assumes nothing.
 use native.Mathlib.Omega.{arith}
 use borrow.Author.Needs.{needs}
-use Rattle.grammar.specs.Found.{bodyOf}
+use Rattle.scan.specs.Found.{bodyOf}
 use Rattle.text.specs.Digits.{small-all}
 use Rattle.text.specs.Body.{body-length}
 use Rattle.text.specs.Tens.{tens-down, tens-past, tens-up}

@@ -1,0 +1,5 @@
+pub mod After
+pub mod Exponent
+pub mod Found
+pub mod Literal
+pub mod Parts
