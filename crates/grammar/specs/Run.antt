@@ -3,7 +3,7 @@
 use mathlib.Core.Path.{_≡_, refl, sym, ap, _∙_}
 use mathlib.Core.Bool.{Bool, true, false, cond, _&&_, _||_, false≢true}
 use mathlib.Core.List.{List, [], _∷_, _++_, map, append-assoc, append-nil}
-use Prim.Native.Nat.{ℕ, zero, suc, _+_}
+use Prim.Native.Nat.{ℕ, zero, suc, _+_, _-_}
 use native.Mathlib.Nat.{add-zero}
 use native.Mathlib.Omega.{arith}
 use lib.Dec.{eqb}
@@ -17,6 +17,15 @@ use Rattle.grammar.specs.Class.{digit-plain}
 -- the digits of a run, as numbers
 unfoldable pub valuesOf : List ℕ → List ℕ
 valuesOf t = map digitOf (digitsOf t)
+
+-- a text from a up to e
+abbrev pub part : List ℕ → ℕ → ℕ → List ℕ
+part t a e = take (e - a) (drop a t)
+
+-- the digits of a stretch of text: those of its bytes other than `_` and the point
+unfoldable pub bodyOf : List ℕ → List ℕ
+bodyOf [] = []
+bodyOf (b ∷ t) = cond (eqb b 95 || eqb b 46) (bodyOf t) (digitOf b ∷ bodyOf t)
 
 abbrev pub sepOf : Bool → Sep
 sepOf true = Skip

@@ -1,9 +1,10 @@
-// What a text means (docs/GRAMMAR.md): the radixes, the longest text, and the classes of bytes.
+// What a text means (docs/GRAMMAR.md): the radixes, the longest text, the classes of bytes, and the numbers of the refusals.
 
 ghost use mathlib.Core.Path.{_≡_};
 ghost use Rattle.grammar.specs.Meaning.{isRadix};
 
 pub mod byte;
+pub mod refusal;
 
 // The longest text that is read.
 pub const TEXT_LIMIT: usize = 4096;

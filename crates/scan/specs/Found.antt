@@ -1,45 +1,32 @@
 -- What the scanner's answer stands for: the digits of its runs in the text. Assumes nothing.
 use mathlib.Core.Path.{_≡_, refl, sym, ap, ap₂, _∙_, subst}
-use mathlib.Core.Bool.{Bool, true, false, cond, _&&_, _||_}
-use mathlib.Core.List.{List, [], _∷_, _++_}
-use Prim.Native.Nat.{ℕ, suc, _+_, _-_, _≤_, _<_}
+use mathlib.Core.Bool.{Bool, true, false, cond, _&&_}
+use mathlib.Core.List.{List, _++_}
+use Prim.Native.Nat.{ℕ, suc, _+_, _≤_, _<_}
 use native.Mathlib.Omega.{arith}
 use native.Mathlib.Numerals.{add-one}
 use lib.Dec.{eqb}
-use lib.ListN.{length, take, drop, getD, drop-of-length-le, length-append}
+use lib.ListN.{length, drop, getD, drop-of-length-le, length-append}
 use lib.Seq.{drop-cons}
 use borrow.Author.Tests.{eq-eqb, ne-eqb, eqb-true, eqb-false}
-use Rattle.digits.specs.Meaning.{digitsOf}
-use Rattle.grammar.specs.Meaning.{digitOf, isSign, Written, Reading, number, unread}
-use Rattle.grammar.specs.Automaton.{isDigit, withExp, at, exponent, nothing, sign}
+use Rattle.grammar.specs.Meaning.{isSign, Written, Reading, number, unread}
+use Rattle.grammar.specs.Automaton.{withExp, at, exponent, nothing, sign}
 use Rattle.grammar.specs.Reading.{reading, expAt, expEnd, read-exp-end, read-refused, signFirst, read-exponent-sign, read-exponent-unsigned}
-use Rattle.grammar.specs.Run.{sepOf, valuesOf, inRun, runMore, runLen}
+use Rattle.grammar.specs.Run.{sepOf, valuesOf, bodyOf, part}
 use Rattle.grammar.specs.declared.byte.Class.{Class}
 use Rattle.grammar.specs.declared.byte.Class.the-variants.{Sign, Point, Underscore, Mark, Other}
+use Rattle.run.specs.declared.Run.{Run}
+use Rattle.exponent.specs.Exponent.{expScan, expStepOf, read-exp}
+use Rattle.exponent.specs.declared.ExpStep.{ExpStep}
+use Rattle.exponent.specs.declared.ExpStep.the-variants.{On, Refuse}
 use Rattle.scan.specs.After.{afterRun, underNumber}
-use Rattle.scan.specs.Exponent.{expScan, expStepOf, read-exp}
-use Rattle.scan.specs.declared.exponent.ExpStep.{ExpStep}
-use Rattle.scan.specs.declared.exponent.ExpStep.the-variants.{On, Refuse}
-use Rattle.scan.specs.declared.Run.{Run}
 use Rattle.scan.specs.declared.Parsed.{Parsed}
 use Rattle.scan.specs.declared.Found.{Found}
 use Rattle.scan.specs.declared.Found.the-variants.{Number, Refused}
 
--- the text from a up to e
-abbrev pub part : List ℕ → ℕ → ℕ → List ℕ
-part t a e = take (e - a) (drop a t)
-
 -- the digits of a run
 abbrev pub spanOf : List ℕ → Run → List ℕ
 spanOf t r = valuesOf (part t (r .from) (r .to))
-
-unfoldable pub runOf : List ℕ → ℕ → ℕ → Bool → Run
-runOf t from radix skip =
-    record {
-      from = from;
-      to = from + runLen skip radix (drop from t);
-      digits = length (digitsOf (part t from (from + runLen skip radix (drop from t))));
-    }
 
 -- the number that the places stand for
 unfoldable pub writtenOf : List ℕ → Parsed → Written
@@ -80,12 +67,7 @@ expEndOf p seen e = cond (noDigits p) (Refused 11) (cond seen (Number (withExpon
 abbrev pub Counted : List ℕ → Run → Type 0
 Counted t r = r .digits ≡ length (spanOf t r)
 
--- The digits of a stretch of text: those of its bytes other than `_` and the point. From the first digit of a number to the last there is
--- one stretch, which has the digits of both runs.
-unfoldable pub bodyOf : List ℕ → List ℕ
-bodyOf [] = []
-bodyOf (b ∷ t) = cond (eqb b 95 || eqb b 46) (bodyOf t) (digitOf b ∷ bodyOf t)
-
+-- From the first digit of a number to the last there is one stretch of text, which has the digits of both runs.
 pub record Stretch (t : List ℕ) (w f : Run) : Type 0 where
   pub start : w .from ≤ f .to
   pub end : f .to ≤ length t
@@ -102,90 +84,6 @@ pub record Ready (t : List ℕ) (p : Parsed) : Type 0 where
 pub data Finds (t : List ℕ) : Found → Reading → Type 0 where
   finds : {p : Parsed} {y : Reading} → y ≡ number (writtenOf t p) → Ready t p → Finds t (Number p) y
   refuses : {n : ℕ} {y : Reading} → y ≡ unread n → Finds t (Refused n) y
-
--- ---- the loop over a run
--- a byte that goes on in it, as the code finds it
-module _ (skip : Bool) (radix b : ℕ) {d : Bool} (e : d ≡ isDigit radix b) where
-  pub in-run-digit : d ≡ true → true ≡ inRun skip radix b
-  in-run-digit t = rw (sym e ∙ t)
-
-  pub in-run-under : d ≡ false → skip ≡ true → eqb b 95 ≡ inRun skip radix b
-  in-run-under t s = rw (sym e ∙ t, s)
-
-  pub in-run-none : d ≡ false → skip ≡ false → false ≡ inRun skip radix b
-  in-run-none t s = rw (sym e ∙ t, s)
-
-more-none : (skip : Bool) (radix : ℕ) → runMore skip radix [] ≡ 0
-unfolding runMore
-more-none skip radix = refl
-
--- a run is no longer than what there is
-pub more-fits : (skip : Bool) (radix : ℕ) (t : List ℕ) → runMore skip radix t ≤ length t
-unfolding runMore
-more-fits skip radix [] = omega arith
-more-fits skip radix (b ∷ t) = go (inRun skip radix b) (more-fits skip radix t)
-  where
-    go : (g : Bool) → runMore skip radix t ≤ length t → cond g (suc (runMore skip radix t)) 0 ≤ length (b ∷ t)
-    go true h = omega arith
-    go false h = omega arith
-
-module _ (skip : Bool) (radix : ℕ) (t : List ℕ) (i : ℕ) where
-  more-yes : i < length t → inRun skip radix (getD t i 0) ≡ true → runMore skip radix (drop i t) ≡ suc (runMore skip radix (drop (i + 1) t))
-  unfolding runMore
-  more-yes h e = rw (add-one, drop-cons t i 0 h, e)
-
-  more-no : i < length t → inRun skip radix (getD t i 0) ≡ false → runMore skip radix (drop i t) ≡ 0
-  unfolding runMore
-  more-no h e = rw (drop-cons t i 0 h, e)
-
-  pub run-next : {w : ℕ} {g : Bool} → i < length t → g ≡ inRun skip radix (getD t i 0) → g ≡ true → i + runMore skip radix (drop i t) ≡ w → i + 1 + runMore skip radix (drop (i + 1) t) ≡ w
-  run-next h e g inv = omega (arith, more-yes h (sym e ∙ g))
-
-  pub run-stop : {w : ℕ} {g : Bool} → i < length t → g ≡ inRun skip radix (getD t i 0) → g ≡ false → i + runMore skip radix (drop i t) ≡ w → i ≡ w
-  run-stop h e g inv = omega (arith, more-no h (sym e ∙ g))
-
-  pub run-over : {w : ℕ} → length t ≤ i → i + runMore skip radix (drop i t) ≡ w → i ≡ w
-  run-over h inv =
-      let none : runMore skip radix (drop i t) ≡ 0 = ap (runMore skip radix) (drop-of-length-le t h) ∙ more-none skip radix in
-      omega arith
-
--- ---- the run at a place
-module _ (t : List ℕ) (from radix : ℕ) (skip : Bool) where
-  len-some : from < length t → isDigit radix (getD t from 0) ≡ true → runLen skip radix (drop from t) ≡ suc (runMore skip radix (drop (from + 1) t))
-  unfolding runLen
-  len-some h e = rw (add-one, drop-cons t from 0 h, e)
-
-  len-none : from < length t → isDigit radix (getD t from 0) ≡ false → runLen skip radix (drop from t) ≡ 0
-  unfolding runLen
-  len-none h e = rw (drop-cons t from 0 h, e)
-
-  len-past : length t ≤ from → runLen skip radix (drop from t) ≡ 0
-  unfolding runLen
-  len-past h = rw (drop-of-length-le t h)
-
-  -- the code's record is the run
-  run-is : (to n : ℕ) → to ≡ from + runLen skip radix (drop from t) → n ≡ length (digitsOf (part t from to)) → _≡_ {A = Run} (record { from = from; to = to; digits = n }) (runOf t from radix skip)
-  unfolding runOf
-  run-is to n e q =
-      ap (λ (k : ℕ). record { from = from; to = to; digits = k }) q
-      ∙ ap (λ (k : ℕ). record { from = from; to = k; digits = length (digitsOf (part t from k)) }) e
-
-  empty-run : runLen skip radix (drop from t) ≡ 0 → _≡_ {A = Run} (record { from = from; to = from; digits = 0 }) (runOf t from radix skip)
-  unfolding digitsOf
-  empty-run e =
-      let z : from - from ≡ 0 = omega arith in
-      run-is from 0 (omega (arith, e)) (sym (ap (λ (k : ℕ). length (digitsOf (take k (drop from t)))) z))
-
-  pub run-some :
-      {to n : ℕ} {d : Bool} → from < length t → d ≡ isDigit radix (getD t from 0) → d ≡ true → to ≡ from + 1 + runMore skip radix (drop (from + 1) t) →
-      n ≡ length (digitsOf (part t from to)) → _≡_ {A = Run} (record { from = from; to = to; digits = n }) (runOf t from radix skip)
-  run-some {to} {n} h e g q c = run-is to n (omega (arith, len-some h (sym e ∙ g))) c
-
-  pub run-none : {d : Bool} → from < length t → d ≡ isDigit radix (getD t from 0) → d ≡ false → _≡_ {A = Run} (record { from = from; to = from; digits = 0 }) (runOf t from radix skip)
-  run-none h e g = empty-run (len-none h (sym e ∙ g))
-
-  pub run-past : length t ≤ from → _≡_ {A = Run} (record { from = from; to = from; digits = 0 }) (runOf t from radix skip)
-  run-past h = empty-run (len-past h)
 
 -- ---- the ends as the code finds them, g whether there are no digits
 module _ (p : Parsed) {g : Bool} (t : g ≡ noDigits p) where

@@ -15,13 +15,14 @@ use Rattle.digits.specs.Meaning.{digitsOf}
 use Rattle.grammar.specs.Meaning.{digitOf, isSign, Written, plainReading, isRadix, number, unread}
 use Rattle.grammar.specs.Automaton.{isDigit, Scan, at, whole, fraction, nothing, sign, blank, finish, scan, Error, readingOf}
 use Rattle.grammar.specs.Reading.{reading, opened, read-end, signFirst, read-unsigned, read-sign}
-use Rattle.grammar.specs.Run.{valuesOf, values-digit, values-under, both, sepOf, inRun, runMore, runLen, partOf, withDigits, seenAfter, scan-run}
+use Rattle.grammar.specs.Run.{valuesOf, bodyOf, part, values-digit, values-under, both, sepOf, inRun, runMore, runLen, partOf, withDigits, seenAfter, scan-run}
 use Rattle.grammar.specs.Class.{classOf, digit-plain}
 use Rattle.grammar.specs.Agrees.{plain-agrees}
-use Rattle.scan.specs.After.{afterRun, Stopped, read-after, read-point}
-use Rattle.scan.specs.Found.{bodyOf, more-fits, part, spanOf, runOf, writtenOf, wholeOf, unmarkedOf, Counted, Ready, Finds, finds-by, finds-unmarked, no-sign-at, no-sign-past}
 use Rattle.grammar.specs.declared.byte.Class.{Class}
-use Rattle.scan.specs.declared.Run.{Run}
+use Rattle.run.specs.Run.{runOf, more-fits}
+use Rattle.run.specs.declared.Run.{Run}
+use Rattle.scan.specs.After.{afterRun, Stopped, read-after, read-point}
+use Rattle.scan.specs.Found.{spanOf, writtenOf, wholeOf, unmarkedOf, Counted, Ready, Finds, finds-by, finds-unmarked, no-sign-at, no-sign-past}
 use Rattle.scan.specs.declared.Parsed.{Parsed}
 use Rattle.scan.specs.declared.Found.{Found}
 

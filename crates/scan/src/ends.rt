@@ -3,7 +3,7 @@ ghost use mathlib.Core.Path.{_≡_};
 ghost use Rattle.scan.specs.Found.{noDigits, unmarkedOf, expEndOf};
 use crate::Found;
 use crate::Parsed;
-use crate::refusal;
+use grammar::refusal;
 
 fn no_digits(p: Parsed) -> bool
     ensures { λ r. ⌜ r ≡ noDigits p ⌝ }

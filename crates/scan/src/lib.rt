@@ -4,20 +4,12 @@ ghost use mathlib.Core.Path.{_≡_};
 ghost use mathlib.Core.Bool.{true};
 ghost use Rattle.grammar.specs.Meaning.{plainReading, isRadix};
 ghost use Rattle.scan.specs.Found.{Finds};
+use run::Run;
 
 mod ends;
-mod exponent;
 pub mod literal;
+mod mark;
 mod parts;
-mod refusal;
-mod runs;
-
-// A run of digits in the text, and how many digits it has (`_` do not count).
-pub struct Run {
-    pub from: usize,
-    pub to: usize,
-    pub digits: usize,
-}
 
 // A number as it stands in the text. `base` is what the exponent scales by.
 pub struct Parsed {

@@ -12,13 +12,12 @@ ghost use Rattle.scan.specs.Found.{writtenOf, withMarkBase, wholeOf, Rea
 ghost use Rattle.scan.specs.Parts.{Behind};
 use crate::Found;
 use crate::Parsed;
-use crate::Run;
 use crate::ends;
-use crate::exponent;
-use crate::refusal;
-use crate::runs;
+use crate::mark;
 use grammar::byte;
 use grammar::byte::Class;
+use grammar::refusal;
+use run::Run;
 
 fn based(mut p: Parsed, base: u32) -> Parsed
     ensures { λ r. ⌜ r ≡ withMarkBase p base ⌝ }
@@ -46,7 +45,7 @@ fn after_run(class: Class, text: &[u8], next: usize, radix: u32, skip: bool, p: 
         Class::Sign => Found::Refused(refusal::MISPLACED_SIGN),
         Class::Point => Found::Refused(refusal::TOO_MANY_POINTS),
         Class::Underscore => Found::Refused(under_number(skip)),
-        Class::Mark(base) => exponent::exponent(text, next, radix, skip, based(p, base)),
+        Class::Mark(base) => mark::exponent(text, next, radix, skip, based(p, base)),
         Class::Other => Found::Refused(refusal::INVALID_DIGIT),
     }
 }
@@ -56,7 +55,7 @@ fn fraction(text: &[u8], from: usize, radix: u32, skip: bool, neg: bool, whole: 
     requires { ⌜ (from ≤ length (now text)) × (isRadix radix ≡ true) × Behind (now text) whole from ⌝ }
     ensures { λ r. ⌜ Finds (now (text .entry)) r (reading (sepOf skip) radix (drop from (now (text .entry))) (at fractionPart nothing (wholeOf (now (text .entry)) neg whole))) ⌝ }
 {
-    let run = runs::run_at(text, from, radix, skip);
+    let run = run::run_at(text, from, radix, skip);
     let end = run.to;
     let p = Parsed {
         neg,
@@ -84,7 +83,7 @@ pub(crate) fn whole(text: &[u8], from: usize, radix: u32, skip: bool, neg: bool)
     requires { ⌜ (from ≤ length (now text)) × (isRadix radix ≡ true) ⌝ }
     ensures { λ r. ⌜ Finds (now (text .entry)) r (reading (sepOf skip) radix (drop from (now (text .entry))) (at wholePart signSeen (blank neg))) ⌝ }
 {
-    let run = runs::run_at(text, from, radix, skip);
+    let run = run::run_at(text, from, radix, skip);
     let end = run.to;
     let p = Parsed {
         neg,

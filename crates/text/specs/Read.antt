@@ -20,8 +20,8 @@ use Rattle.grammar.specs.Agrees.{plain-says, literal-says}
 use Rattle.scan.specs.Literal.{FindsLiteral}
 use Rattle.scan.specs.declared.literal.Written.{Written as LiteralWritten}
 use Rattle.scan.specs.Found.{writtenOf, Ready, Finds, finds, refuses}
-use Rattle.text.specs.declared.fold.Folded.{Folded}
-use Rattle.text.specs.Fold.{foldOf, valueOf, bit}
+use Rattle.fold.specs.declared.Folded.{Folded}
+use Rattle.fold.specs.Fold.{foldOf, valueOf, bit}
 use Rattle.text.specs.Theorems.{settle-folded}
 use Rattle.scan.specs.declared.Parsed.{Parsed}
 use Rattle.scan.specs.declared.Found.{Found}

@@ -2,11 +2,9 @@
 ghost use mathlib.Core.Path.{_≡_};
 ghost use Rattle.grammar.specs.Meaning.{rawOf};
 ghost use Rattle.scan.specs.Found.{writtenOf};
-ghost use Rattle.text.specs.Fold.{foldOf};
+ghost use Rattle.fold.specs.Fold.{foldOf};
 ghost use Rattle.text.specs.Read.{Readable};
-use crate::bits;
-use crate::fold::Folded;
-use crate::tens;
+use fold::Folded;
 use scan::Parsed;
 
 pub(crate) fn magnitude(text: &[u8], p: Parsed, radix: u32, frac: u32) -> Folded

@@ -6,7 +6,6 @@ ghost use Rattle.format.specs.declared.Manner.the-variants.{Strict};
 ghost use Rattle.text.specs.Promise.{ReadSigned, LiteralSigned};
 ghost use Rattle.text.specs.Read.{Readable, Sane, numberOutcome, foundOutcome};
 use crate::early;
-use crate::fold;
 use crate::magnitude;
 use format::Manner;
 use format::SignedAnswer;
