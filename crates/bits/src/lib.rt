@@ -1,5 +1,5 @@
 // Reading in radix 2, 8 and 16, where a digit is a whole number of bits: the digits are cut at the bit that the format and the exponent
-// ask for, and no exponent is ever expanded.
+// ask for, and no exponent is ever expanded. An inner function of the readers.
 ghost use mathlib.Core.Path.{_≡_};
 ghost use Prim.Native.Nat.{_+_, _-_, _*_, _%_, _^_, _<_, _≤_};
 ghost use Rattle.laws.specs.Nearest.{nearestEven};

@@ -1,5 +1,5 @@
 -- A number of any size folded into one word and a bit, and that this is enough: sums, products and rounding of what is folded give what
--- the number gives (and a format makes the same of it: `settle-folded` of Theorems). Assumes nothing.
+-- the number gives (and a format makes the same of it: `settle-folded` of `text`). Assumes nothing.
 use mathlib.Core.Path.{_≡_, sym, ap, _∙_}
 use mathlib.Core.Bool.{Bool, true, false, cond}
 use Prim.Native.Nat.{ℕ, suc, _+_, _-_, _*_, _/_, _%_, _^_, _≤_, _<_}

@@ -1,4 +1,5 @@
 // A number of any size, folded into one word: what it is modulo 2^64, and whether it is past that. No format needs more of it.
+// body.rt walks the digits of a text and folds them. Inner functions of the readers.
 ghost use mathlib.Core.Path.{_≡_};
 ghost use Prim.Native.Nat.{_+_, _*_, _^_, _<_};
 ghost use Rattle.wide.specs.Meaning.{valueOf as wideOf};

@@ -1,4 +1,5 @@
-// The raw of a decimal number: the digits before the point exactly, those after it rounded by the first 27 and one comparison.
+// The raw of a decimal number: the digits before the point exactly, those after it rounded by the first 27 and one comparison. An inner
+// function of the readers.
 ghost use mathlib.Core.Path.{_≡_};
 ghost use mathlib.Core.List.{_++_, List·Memᴰ};
 ghost use Prim.Native.Nat.{ℕ, _+_, _*_, _^_, _≤_, _<_};
