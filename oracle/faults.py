@@ -11,7 +11,7 @@ import re
 import subprocess
 import sys
 
-# text::prefix: the divisor, its negative and its double modulo 2^64, and the reciprocal of its upper half times 2^95
+# tens::prefix: the divisor, its negative and its double modulo 2^64, and the reciprocal of its upper half times 2^95
 DIVISOR = 14901161193847656250
 NEGATIVE = 2**64 - DIVISOR
 DOUBLE = 2 * DIVISOR - 2**64

@@ -5,21 +5,19 @@ use mathlib.Core.List.{List, [], _∷_, _++_}
 use Prim.Native.Nat.{ℕ, _+_, _*_}
 use lib.Dec.{leb, eqb}
 use lib.ListN.{length, getD}
-use borrow.Author.Tests.{eqb-true, ltb-true}
+use borrow.Author.Tests.{eqb-true}
 use Rattle.format.specs.declared.Manner.{Manner}
 use Rattle.format.specs.declared.Manner.the-variants.{Strict}
 use Rattle.format.specs.Meaning.{Sign, Outcome, refused, unless, faultOf}
 use Rattle.grammar.specs.Meaning.{digitOf, isSign, isMark, Written, Reading, number, unread, expLimit, atEnd, afterSign, exponentFrom, digitsFrom, plainReading}
 use Rattle.grammar.specs.Meaning.{literalMinus, literalBody, afterPrefix, literalRadix, literalReading, outcomeOf, isRadix, textLimit, readOf, literalOf}
-use Rattle.grammar.specs.Automaton.{isDigit, baseOf, blank, withDigit, whole, fraction, exponent, Seen, nothing, digit, Scan, at, refuse, Sep, Skip, Error}
-use Rattle.grammar.specs.Automaton.{onSign, onPoint, onUnderscore, onMark, onOther, plainScan, literalScan, readingOf, readScan}
+use Rattle.grammar.specs.Automaton.{isDigit, baseOf, blank, withDigit, withExp, whole, fraction, exponent, Seen, nothing, digit, Scan, at, refuse, Sep, Skip, Error}
+use Rattle.grammar.specs.Automaton.{onSign, onPoint, onUnderscore, onMark, onExpDigit, onOther, plainScan, literalScan, readingOf, readScan}
 use Rattle.grammar.specs.Accepted.{Says, ends-says, plain-ends, literal-ends}
-use Rattle.grammar.specs.Class.{classOf, ten-plain}
+use Rattle.grammar.specs.Class.{classOf}
 use Rattle.grammar.specs.Run.{sepOf, partOf}
 use Rattle.grammar.specs.Reading.{reading, onClass, read-next, read-refused, read-end, opened, signFirst, read-unsigned, read-sign, read-exponent-unsigned, read-exponent-sign}
-use Rattle.grammar.specs.Reading.{expUnder, expDigit, expOther, expStepOf, expAt, expScan, read-exp, expEnd, read-exp-end}
-use Rattle.grammar.specs.declared.scan.ExpStep.{ExpStep}
-use Rattle.grammar.specs.declared.scan.ExpStep.the-variants.{On, Refuse}
+use Rattle.grammar.specs.Reading.{expSeen, expAt, expEnd, read-exp-end}
 use Rattle.grammar.specs.declared.byte.Class.the-variants.{Sign as SignByte, Point, Underscore, Mark, Other}
 
 -- what is no sign, `+` or `-`, is no `-`
@@ -27,10 +25,14 @@ pub or-right : (a b : Bool) → (a || b) ≡ false → b ≡ false
 or-right true b h = absurd (true≢false h)
 or-right false b h = h
 
--- a point is no mark
+-- a point is no mark, and no decimal digit
 point-mark : (radix : ℕ) → isMark radix 46 ≡ false
 unfolding isMark
 point-mark radix = refl
+
+point-digit : isDigit 10 46 ≡ false
+unfolding digitOf
+point-digit = refl
 
 -- what the meaning does with `_`
 abbrev underscore : Bool → Bool → ℕ → Reading → Reading
@@ -54,58 +56,56 @@ module _ (skip : Bool) (radix : ℕ) where
       go false false = refl
 
   module _ (b : ℕ) (t : List ℕ) (x : Written) (e : ℕ) where
-    -- what the meaning does with a byte, by the reading after a digit, v, and the reading that goes on as before, o
-    abbrev onExpByte : Bool → Reading → Reading → Reading
-    onExpByte seen o v =
-        cond (isSign b) (unread 12)
-        (cond (eqb b 95) (underscore skip seen 16 o)
-        (cond (isMark radix b) (unread 18)
-        (cond (not (isDigit 10 b)) (unread 16)
-        (cond (not (leb (e * 10 + digitOf b) (expLimit (x .down)))) (unread 19) v))))
+    abbrev here : Written
+    here = withExp x (x .down) e
 
-    abbrev after : ExpStep → Reading
-    after s = reading k radix t (expScan s x)
+    abbrev next : ℕ
+    next = e * 10 + digitOf b
 
-    digit-agrees : (seen : Bool) (o v : Reading) → v ≡ reading k radix t (expAt true x (e * 10 + digitOf b)) → isDigit 10 b ≡ true
-        → onExpByte seen o v ≡ after (expDigit (x .down) e (digitOf b))
-    unfolding expDigit expScan
-    digit-agrees seen o v more h =
-        let n = ten-plain radix b (ltb-true (digitOf b) 10 h) in
-        simp (n .no-sign, n .no-under, n .no-mark, h) (go (leb (e * 10 + digitOf b) (expLimit (x .down))))
-      where
-        go : (l : Bool) → cond (not l) (unread 19) v ≡ after (cond l (On (e * 10 + digitOf b)) (Refuse 19))
-        go true = more
-        go false = sym (read-refused k radix t 19)
+    abbrev after : Scan → Reading
+    after = reading k radix t
 
-    under-agrees : (skip seen : Bool) {o : Reading} → o ≡ reading (sepOf skip) radix t (expAt seen x e) → underscore skip seen 16 o ≡ reading (sepOf skip) radix t (expScan (expUnder skip seen e) x)
-    unfolding expUnder expScan
+    exp-sign-agrees : (minus seen : Bool) → unread 12 ≡ after (onSign minus exponent (expSeen seen) here)
+    unfolding onSign
+    exp-sign-agrees minus true = sym (read-refused k radix t 12)
+    exp-sign-agrees minus false = sym (read-refused k radix t 12)
+
+    under-agrees : (skip seen : Bool) {o : Reading} → o ≡ reading (sepOf skip) radix t (expAt seen x e) → underscore skip seen 16 o ≡ reading (sepOf skip) radix t (onUnderscore (sepOf skip) exponent (expSeen seen) here)
+    unfolding onUnderscore
     under-agrees true true same = same
     under-agrees true false same = sym (read-refused Skip radix t 14)
     under-agrees false seen same = sym (read-refused Error radix t 16)
 
-    other-agrees : (seen : Bool) (o v : Reading) → o ≡ reading k radix t (expAt seen x e) → isDigit 10 b ≡ false → onExpByte seen o v ≡ after (expOther (classOf radix b) skip seen e)
-    unfolding classOf expOther expScan
-    other-agrees seen o v same h = rw h (go (isSign b) (eqb b 46) (eqb b 95) (isMark radix b) refl refl refl)
+    -- what the meaning does with a byte of no other class, v the reading after a digit
+    abbrev onExpByte : Reading → Reading
+    onExpByte v = cond (not (isDigit 10 b)) (unread 16) (cond (not (leb next (expLimit (x .down)))) (unread 19) v)
+
+    digit-agrees : {v : Reading} → v ≡ after (expAt true x next) → onExpByte v ≡ after (onOther radix b exponent here)
+    unfolding onOther onExpDigit
+    digit-agrees {v} more = go (isDigit 10 b) (leb next (expLimit (x .down)))
+      where
+        go : (g l : Bool) → cond (not g) (unread 16) (cond (not l) (unread 19) v) ≡ after (cond g (cond l (expAt true x next) (refuse 19)) (refuse 16))
+        go true true = more
+        go true false = sym (read-refused k radix t 19)
+        go false l = sym (read-refused k radix t 16)
+
+    -- o where the reading goes on as before
+    byte-agrees : (seen : Bool) {o v : Reading} → o ≡ after (expAt seen x e) → v ≡ after (expAt true x next)
+        → cond (isSign b) (unread 12) (cond (eqb b 95) (underscore skip seen 16 o) (cond (isMark radix b) (unread 18) (onExpByte v)))
+        ≡ reading k radix (b ∷ t) (expAt seen x e)
+    unfolding classOf onClass onPoint onMark
+    byte-agrees seen {o} {v} same more = go (isSign b) (eqb b 46) (eqb b 95) (isMark radix b) refl refl refl ∙ sym (read-next k radix b t exponent (expSeen seen) here)
       where
         go : (s d u m : Bool) → eqb b 46 ≡ d → eqb b 95 ≡ u → isMark radix b ≡ m
-            → cond s (unread 12) (cond u (underscore skip seen 16 o) (cond m (unread 18) (unread 16)))
-            ≡ after (expOther (cond s SignByte (cond d Point (cond u Underscore (cond m (Mark (baseOf radix b)) Other)))) skip seen e)
-        go true d u m p q r = sym (read-refused k radix t 12)
+            → cond s (unread 12) (cond u (underscore skip seen 16 o) (cond m (unread 18) (onExpByte v)))
+            ≡ after (onClass (cond s SignByte (cond d Point (cond u Underscore (cond m (Mark (baseOf radix b)) Other)))) k radix b exponent (expSeen seen) here)
+        go true d u m p q r = exp-sign-agrees (eqb b 45) seen
         go false true true m p q r = absurd (true≢false (sym q ∙ ap (λ (c : ℕ). eqb c 95) (eqb-true b 46 p)))
         go false true false true p q r = absurd (true≢false (sym r ∙ ap (isMark radix) (eqb-true b 46 p) ∙ point-mark radix))
-        go false true false false p q r = sym (read-refused k radix t 16)
+        go false true false false p q r = rw (ap (isDigit 10) (eqb-true b 46 p) ∙ point-digit) (sym (read-refused k radix t 16))
         go false false true m p q r = under-agrees skip seen same
         go false false false true p q r = sym (read-refused k radix t 18)
-        go false false false false p q r = sym (read-refused k radix t 16)
-
-    byte-agrees : (seen : Bool) {o v : Reading} → o ≡ reading k radix t (expAt seen x e) → v ≡ reading k radix t (expAt true x (e * 10 + digitOf b))
-        → onExpByte seen o v ≡ reading k radix (b ∷ t) (expAt seen x e)
-    unfolding expStepOf
-    byte-agrees seen {o} {v} same more = go (isDigit 10 b) refl ∙ sym (read-exp skip radix b x e seen t)
-      where
-        go : (g : Bool) → isDigit 10 b ≡ g → onExpByte seen o v ≡ after (cond g (expDigit (x .down) e (digitOf b)) (expOther (classOf radix b) skip seen e))
-        go true h = digit-agrees seen o v more h
-        go false h = other-agrees seen o v same h
+        go false false false false p q r = digit-agrees more
 
   exponent-agrees : (x : Written) (e : ℕ) (seen : Bool) (t : List ℕ) → exponentFrom skip radix (x .neg) (x .digits) (x .after) (x .base) (x .down) e seen t ≡ reading k radix t (expAt seen x e)
   unfolding exponentFrom

@@ -12,7 +12,7 @@ use Rattle.format.specs.Meaning.{Sign, signed, unsigned, settle, withSign}
 use Rattle.grammar.specs.Meaning.{digitOf, isMark, Written, prefixMark, prefixRadix, dropUnderscores, afterPrefix, literalMinus, literalBody, rawOf}
 use Rattle.grammar.specs.Automaton.{Sep, fraction, Seen, digit, Scan, at, withDigit, step, scan, ended, finish, readScan, onOther}
 use Rattle.grammar.specs.Accepted.{Ends, ends-sound, sound-base, finish-at, scan-append}
-use Rattle.grammar.specs.Literal.{short-prefix}
+use Rattle.grammar.specs.Literals.{short-prefix}
 use Rattle.grammar.specs.Rounding.{zero-more}
 
 abbrev pub zeros : ℕ → List ℕ

@@ -4,12 +4,9 @@ pub mod Appended
 pub mod Automaton
 pub mod Cases
 pub mod Class
-pub mod Found
-pub mod Literal
 pub mod Literals
 pub mod Meaning
 pub mod Naturals
-pub mod Parts
 pub mod Pointed
 pub mod Reading
 pub mod Rounding

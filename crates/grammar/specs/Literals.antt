@@ -3,16 +3,27 @@ use mathlib.Core.Path.{_≡_, refl, sym, ap, _∙_}
 use mathlib.Core.Logic.{_⊎_, inl, inr}
 use mathlib.Core.Bool.{Bool, true, false, cond, false≢true}
 use mathlib.Core.List.{List, [], _∷_, List·Memᴰ, List·Memᴰ·head, List·Memᴰ·tail}
-use Prim.Native.Nat.{ℕ, suc, _≤_}
+use Prim.Native.Nat.{ℕ, suc, _≤_, _<_}
 use native.Mathlib.Omega.{arith}
 use lib.Dec.{eqb}
 use lib.ListN.{length, length-drop, drop, getD}
 use borrow.Author.Tests.{eqb-true, eqb-false, ne-eqb}
 use Rattle.format.specs.Meaning.{Sign, signed, unsigned}
-use Rattle.grammar.specs.Meaning.{isSign, Written, number, plainReading, literalReading, prefixRadix, dropUnderscores, afterPrefix, literalMinus, literalBody, literalRadix}
+use Rattle.grammar.specs.Meaning.{isSign, Written, number, plainReading, literalReading, prefixMark, prefixRadix, dropUnderscores, afterPrefix, literalMinus, literalBody, literalRadix}
 use Rattle.grammar.specs.Automaton.{Sep, Skip, Error, Part, whole, Seen, nothing, sign, digit, Scan, at, refuse, blank, step, scan, finish, plainScan, literalScan, onSign, onUnderscore, readingOf}
 use Rattle.grammar.specs.Accepted.{finish-at, scan-refuse, number-at}
 use Rattle.grammar.specs.Agrees.{or-right, plain-scanned, literal-scanned}
+
+-- ---- the prefix: where there is no second byte there is none
+pub same-either : (c : Bool) → _≡_ {A = ℕ} 10 (cond c 10 10)
+same-either true = refl
+same-either false = refl
+
+pub short-prefix : (l : List ℕ) → length l < 2 → 10 ≡ prefixRadix l
+unfolding prefixRadix prefixMark
+short-prefix [] h = refl
+short-prefix (a ∷ []) h = same-either (eqb a 48)
+short-prefix (a ∷ b ∷ l) h = absurd (omega arith)
 
 -- ---- `_`: where there is none the readers scan alike
 step-sep : (radix b : ℕ) (p : Part) (q : Seen) (x : Written) → (95 ≡ b → ⊥) → step Skip radix b p q x ≡ step Error radix b p q x

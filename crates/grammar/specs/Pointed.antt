@@ -13,7 +13,7 @@ use Rattle.grammar.specs.Meaning.{isSign, isMark, Written, number, expLi
 use Rattle.grammar.specs.Automaton.{isDigit, baseOf, blank, Part, whole, fraction, exponent, Seen, nothing, sign, digit, Scan, at, refuse, Sep, Skip, Error, onSign, onPoint, onUnderscore, onMark, onExpDigit, onOther, step, scan, finish, plainScan, literalScan, readingOf}
 use Rattle.grammar.specs.Accepted.{by-test, BaseIs, Sound, Ends, ends-sound, finish-at, number-at, plain-ends, literal-ends}
 use Rattle.grammar.specs.Agrees.{plain-scanned, literal-scanned}
-use Rattle.grammar.specs.Literal.{short-prefix, same-either}
+use Rattle.grammar.specs.Literals.{short-prefix, same-either}
 
 -- ---- past the whole part: what is there stays there
 abbrev past : Part → Bool

@@ -3,7 +3,7 @@
 use mathlib.Core.Path.{_≡_, refl, sym, ap, _∙_}
 use mathlib.Core.Bool.{Bool, true, false, cond, _&&_, _||_, false≢true}
 use mathlib.Core.List.{List, [], _∷_, _++_, map, append-assoc, append-nil}
-use Prim.Native.Nat.{ℕ, zero, suc, _+_}
+use Prim.Native.Nat.{ℕ, zero, suc, _+_, _-_}
 use native.Mathlib.Nat.{add-zero}
 use native.Mathlib.Omega.{arith}
 use lib.Dec.{eqb}
@@ -18,6 +18,15 @@ use Rattle.grammar.specs.Class.{digit-plain}
 unfoldable pub valuesOf : List ℕ → List ℕ
 valuesOf t = map digitOf (digitsOf t)
 
+-- a text from a up to e
+abbrev pub part : List ℕ → ℕ → ℕ → List ℕ
+part t a e = take (e - a) (drop a t)
+
+-- the digits of a stretch of text: those of its bytes other than `_` and the point
+unfoldable pub bodyOf : List ℕ → List ℕ
+bodyOf [] = []
+bodyOf (b ∷ t) = cond (eqb b 95 || eqb b 46) (bodyOf t) (digitOf b ∷ bodyOf t)
+
 abbrev pub sepOf : Bool → Sep
 sepOf true = Skip
 sepOf false = Error
@@ -25,16 +34,6 @@ sepOf false = Error
 -- a byte that goes on in a run
 abbrev pub inRun : Bool → ℕ → ℕ → Bool
 inRun skip radix b = isDigit radix b || (skip && eqb b 95)
-
-module _ (skip : Bool) (radix b : ℕ) {d : Bool} (e : d ≡ isDigit radix b) where
-  pub in-run-digit : d ≡ true → true ≡ inRun skip radix b
-  in-run-digit t = rw (sym e ∙ t)
-
-  pub in-run-under : d ≡ false → skip ≡ true → eqb b 95 ≡ inRun skip radix b
-  in-run-under t s = rw (sym e ∙ t, s)
-
-  pub in-run-none : d ≡ false → skip ≡ false → false ≡ inRun skip radix b
-  in-run-none t s = rw (sym e ∙ t, s)
 
 -- how many bytes the rest of a run has, and how many a run has: it starts with a digit
 unfoldable pub runMore : Bool → ℕ → List ℕ → ℕ

@@ -1,11 +1,10 @@
-// Which texts are numbers, and where their digits stand (docs/GRAMMAR.md; `parse_bounds` and `lit` of S's src/from_str.rs).
+// What a text means (docs/GRAMMAR.md): the radixes, the longest text, the classes of bytes, and the numbers of the refusals.
 
 ghost use mathlib.Core.Path.{_≡_};
 ghost use Rattle.grammar.specs.Meaning.{isRadix};
 
 pub mod byte;
-pub mod literal;
-pub mod scan;
+pub mod refusal;
 
 // The longest text that is read.
 pub const TEXT_LIMIT: usize = 4096;

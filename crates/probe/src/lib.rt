@@ -1,7 +1,7 @@
 // The scanner for a program from outside: what a text is, and where its digits stand, before any number is made of them. It is no
 // part of the library's interface: oracle/scan links it to hold the scanner against the automaton of docs/GRAMMAR.md.
-use grammar::scan::Found;
-use grammar::scan::Parsed;
+use scan::Found;
+use scan::Parsed;
 
 #[repr(C)]
 pub struct Probe {
@@ -63,14 +63,14 @@ fn shown(found: Found, radix: u32) -> Probe {
 #[no_mangle]
 pub extern "C" fn probe_plain(text: &[u8], radix: u32) -> Probe {
     if grammar::is_radix(radix) {
-        return shown(grammar::scan::plain(text, radix), radix);
+        return shown(scan::plain(text, radix), radix);
     }
     refused(3, radix)
 }
 
 #[no_mangle]
 pub extern "C" fn probe_literal(text: &[u8], signed: u32) -> Probe {
-    let written = grammar::literal::literal(text, signed != 0);
+    let written = scan::literal::literal(text, signed != 0);
     let found = written.found;
     shown(found, written.radix)
 }

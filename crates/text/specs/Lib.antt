@@ -1,17 +1,4 @@
-pub mod Bits
-pub mod Body
-pub mod Cut
-pub mod Digits
-pub mod Fold
 pub mod Magnitude
-pub mod Middle
-pub mod Numbers
-pub mod Order
-pub mod Point
-pub mod Prefix
 pub mod Promise
 pub mod Read
-pub mod Round
-pub mod Tens
 pub mod Theorems
-pub mod Walk

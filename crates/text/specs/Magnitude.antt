@@ -14,11 +14,12 @@ use Rattle.grammar.specs.Meaning.{expLimit, num, den, rawOf, isRadix, textLimit
 use Rattle.grammar.specs.Automaton.{Part, whole, fraction, exponent}
 use Rattle.grammar.specs.Naturals.{natOf}
 use Rattle.grammar.specs.Accepted.{TenIs, sound-exp, sound-bases}
-use Rattle.grammar.specs.Found.{bodyOf, part, spanOf, writtenOf}
-use Rattle.grammar.specs.declared.scan.Parsed.{Parsed}
-use Rattle.text.specs.Body.{asWritten, body-length}
-use Rattle.text.specs.Bits.{Legal}
-use Rattle.text.specs.Point.{decimal}
+use Rattle.grammar.specs.Run.{bodyOf, part}
+use Rattle.scan.specs.Found.{spanOf, writtenOf}
+use Rattle.scan.specs.declared.Parsed.{Parsed}
+use Rattle.fold.specs.Body.{asWritten, body-length}
+use Rattle.bits.specs.Bits.{Legal}
+use Rattle.tens.specs.Point.{decimal}
 use Rattle.text.specs.Read.{Readable}
 
 radix-bits : (radix : ℕ) → isRadix radix ≡ true → (radix ≡ 10 → ⊥) → (radix ≡ 2) ⊎ (radix ≡ 8) ⊎ (radix ≡ 16)

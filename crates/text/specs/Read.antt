@@ -17,15 +17,15 @@ use Rattle.grammar.specs.Meaning.{Reading, plainReading, literalBody, literalRa
 use Rattle.grammar.specs.Automaton.{Part, Seen}
 use Rattle.grammar.specs.Accepted.{Sound, Says, says-numbered, prefix-legal}
 use Rattle.grammar.specs.Agrees.{plain-says, literal-says}
-use Rattle.grammar.specs.Literal.{FindsLiteral}
-use Rattle.grammar.specs.declared.literal.Written.{Written as LiteralWritten}
-use Rattle.grammar.specs.Found.{writtenOf, Ready, Finds, finds, refuses}
-use Rattle.text.specs.declared.fold.Folded.{Folded}
-use Rattle.text.specs.Fold.{foldOf, valueOf, bit}
+use Rattle.scan.specs.Literal.{FindsLiteral}
+use Rattle.scan.specs.declared.literal.Written.{Written as LiteralWritten}
+use Rattle.scan.specs.Found.{writtenOf, Ready, Finds, finds, refuses}
+use Rattle.fold.specs.declared.Folded.{Folded}
+use Rattle.fold.specs.Fold.{foldOf, valueOf, bit}
 use Rattle.text.specs.Theorems.{settle-folded}
-use Rattle.grammar.specs.declared.scan.Parsed.{Parsed}
-use Rattle.grammar.specs.declared.scan.Found.{Found}
-use Rattle.grammar.specs.declared.scan.Found.the-variants.{Number, Refused}
+use Rattle.scan.specs.declared.Parsed.{Parsed}
+use Rattle.scan.specs.declared.Found.{Found}
+use Rattle.scan.specs.declared.Found.the-variants.{Number, Refused}
 
 -- ---- the refusals before the text, 0 for none
 unfoldable pub lengthFault : ℕ → ℕ

@@ -8,7 +8,7 @@ use native.Mathlib.Omega.{arith}
 use Rattle.format.specs.declared.Manner.{Manner}
 use Rattle.format.specs.Meaning.{Sign, isWidth, settle, withSign}
 use Rattle.format.specs.Far.{settle-words}
-use Rattle.text.specs.Fold.{foldOf, valueOf, bit, value-small, value-past}
+use Rattle.fold.specs.Fold.{foldOf, valueOf, bit, value-small, value-past}
 
 module _ (s : Sign) (w : ℕ) (neg : Bool) (m : ℕ) (width : isWidth w ≡ true) where
   pub settle-folded : (k : Manner) → settle k s w (withSign neg (valueOf (foldOf m))) ≡ settle k s w (withSign neg m)

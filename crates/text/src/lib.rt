@@ -1,12 +1,6 @@
-// A text to the nearest number of a format (document 01, module 2; S's src/from_str.rs). The digits of a text make a number of any size,
-// which is carried folded into one word (fold.rt); body.rt walks the digits; bits.rt and tens.rt round them, by the radix.
-mod bits;
-mod body;
+// A text to the nearest number of a format (document 01, module 2; S's src/from_str.rs). The scanner finds the digits; `bits`
+// or `tens`, by the radix, makes the nearest raw of them, a number of any size that is carried folded into one word; the format settles it.
 mod early;
-mod fold;
 mod magnitude;
-mod order;
-mod prefix;
 pub mod signed;
-mod tens;
 pub mod unsigned;

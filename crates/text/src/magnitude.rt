@@ -1,13 +1,11 @@
 // The magnitude of a number that the scanner found: its digits stand in one stretch of the text, and the radix says how they are taken.
 ghost use mathlib.Core.Path.{_≡_};
 ghost use Rattle.grammar.specs.Meaning.{rawOf};
-ghost use Rattle.grammar.specs.Found.{writtenOf};
-ghost use Rattle.text.specs.Fold.{foldOf};
+ghost use Rattle.scan.specs.Found.{writtenOf};
+ghost use Rattle.fold.specs.Fold.{foldOf};
 ghost use Rattle.text.specs.Read.{Readable};
-use crate::bits;
-use crate::fold::Folded;
-use crate::tens;
-use grammar::scan::Parsed;
+use fold::Folded;
+use scan::Parsed;
 
 pub(crate) fn magnitude(text: &[u8], p: Parsed, radix: u32, frac: u32) -> Folded
     requires { ⌜ Readable (now text) p radix frac ⌝ }

@@ -6,12 +6,11 @@ ghost use Rattle.format.specs.declared.Manner.the-variants.{Strict};
 ghost use Rattle.text.specs.Promise.{ReadSigned, LiteralSigned};
 ghost use Rattle.text.specs.Read.{Readable, Sane, numberOutcome, foundOutcome};
 use crate::early;
-use crate::fold;
 use crate::magnitude;
 use format::Manner;
 use format::SignedAnswer;
-use grammar::scan::Found;
-use grammar::scan::Parsed;
+use scan::Found;
+use scan::Parsed;
 
 // The plain reader: a text in a radix, in a manner.
 pub fn read(text: &[u8], width: u32, frac: u32, radix: u32, manner: Manner) -> SignedAnswer
@@ -19,14 +18,7 @@ pub fn read(text: &[u8], width: u32, frac: u32, radix: u32, manner: Manner) -> S
 {
     let refused = early::plain(width, frac, radix, text.len());
     if refused == 0 {
-        return answered(
-            text,
-            grammar::scan::plain(text, radix),
-            radix,
-            width,
-            frac,
-            manner,
-        );
+        return answered(text, scan::plain(text, radix), radix, width, frac, manner);
     }
     SignedAnswer::Refused(refused)
 }
@@ -37,7 +29,7 @@ pub fn read_literal(text: &[u8], width: u32, frac: u32) -> SignedAnswer
 {
     let refused = early::literal(width, frac, text.len());
     if refused == 0 {
-        let written = grammar::literal::literal(text, true);
+        let written = scan::literal::literal(text, true);
         let found = written.found;
         return answered(text, found, written.radix, width, frac, Manner::Strict);
     }

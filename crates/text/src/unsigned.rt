@@ -6,12 +6,11 @@ ghost use Rattle.format.specs.declared.Manner.the-variants.{Strict};
 ghost use Rattle.text.specs.Promise.{ReadUnsigned, LiteralUnsigned};
 ghost use Rattle.text.specs.Read.{Readable, Sane, numberOutcome, foundOutcome};
 use crate::early;
-use crate::fold;
 use crate::magnitude;
 use format::Manner;
 use format::UnsignedAnswer;
-use grammar::scan::Found;
-use grammar::scan::Parsed;
+use scan::Found;
+use scan::Parsed;
 
 // The plain reader: a text in a radix, in a manner.
 pub fn read(text: &[u8], width: u32, frac: u32, radix: u32, manner: Manner) -> UnsignedAnswer
@@ -19,14 +18,7 @@ pub fn read(text: &[u8], width: u32, frac: u32, radix: u32, manner: Manner) -> U
 {
     let refused = early::plain(width, frac, radix, text.len());
     if refused == 0 {
-        return answered(
-            text,
-            grammar::scan::plain(text, radix),
-            radix,
-            width,
-            frac,
-            manner,
-        );
+        return answered(text, scan::plain(text, radix), radix, width, frac, manner);
     }
     UnsignedAnswer::Refused(refused)
 }
@@ -37,7 +29,7 @@ pub fn read_literal(text: &[u8], width: u32, frac: u32) -> UnsignedAnswer
 {
     let refused = early::literal(width, frac, text.len());
     if refused == 0 {
-        let written = grammar::literal::literal(text, false);
+        let written = scan::literal::literal(text, false);
         let found = written.found;
         return answered(text, found, written.radix, width, frac, Manner::Strict);
     }

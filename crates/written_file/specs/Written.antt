@@ -15,8 +15,7 @@ use Rattle.format.specs.declared.Manner.the-variants.{Strict}
 use Rattle.format.specs.Meaning.{signed, done, faultOf, isWidth, signedAnswer, numberS, valueS}
 use Rattle.format.specs.Theorems.{InRange}
 use Rattle.grammar.specs.Meaning.{isSign, prefixMark, prefixRadix, literalMinus, literalRadix, literalOf}
-use Rattle.grammar.specs.Literal.{short-prefix, same-either}
-use Rattle.grammar.specs.Literals.{Opens}
+use Rattle.grammar.specs.Literals.{short-prefix, same-either, Opens}
 use Rattle.grammar.specs.Theorems.{literal-plain}
 use Rattle.decimal.specs.Meaning.{byteOf, fractionDigits, minus, textOf, rawText}
 use Rattle.decimal.specs.Form.{Digits, Leads, lone, first, pointed, formText, Form, text-form, form-of}

@@ -1,6 +1,6 @@
 -- `text::magnitude::magnitude` meets its contract: the stretch of the text goes to the core of its radix. Assumes nothing.
 use mathlib.Core.Path.{_∙_, ap}
-use Rattle.text.specs.Fold.{foldOf}
+use Rattle.fold.specs.Fold.{foldOf}
 use Rattle.text.specs.Magnitude.{digits-fit, legal-bits, legal-tens, raw-bits, raw-tens}
 use borrow.Author.Needs.{needs}
 use Rattle.text.proofs.magnitude.magnitude.Statement.{statement}

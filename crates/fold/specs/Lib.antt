@@ -1,0 +1,3 @@
+pub mod Body
+pub mod Fold
+pub mod Round

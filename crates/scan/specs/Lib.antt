@@ -1,0 +1,4 @@
+pub mod After
+pub mod Found
+pub mod Literal
+pub mod Parts
