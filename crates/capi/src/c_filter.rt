@@ -1,6 +1,7 @@
 // tq_filter, tq_headroom: a block through the filter, and whether a set of taps can ever clip.
 ghost use Rattle.filter.specs.Meaning.{stateOf};
-ghost use Rattle.filter.specs.Promise.{Runs, Heads};
+ghost use Rattle.filter.specs.Promise.{Runs};
+ghost use Rattle.headroom.specs.Promise.{Heads};
 ghost use Rattle.capi.specs.Answer.{Unsigned};
 use crate::answer;
 use crate::answer::CUnsigned;
@@ -22,5 +23,5 @@ pub extern "C" fn tq_filter(
 pub extern "C" fn tq_headroom(taps: &[i16], witness: &mut [i16]) -> CUnsigned
     ensures { λ r. ⌜ Unsigned (λ a. Heads (now (taps .entry)) (now (witness .entry)) a (now (witness .exit))) r ⌝ }
 {
-    answer::unsigned(filter::headroom(taps, witness))
+    answer::unsigned(headroom::headroom(taps, witness))
 }

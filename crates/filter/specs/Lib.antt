@@ -1,8 +1,5 @@
 pub mod Block
 pub mod Cases
-pub mod Drive
-pub mod Ends
-pub mod Head
 pub mod Line
 pub mod Meaning
 pub mod Promise
@@ -12,4 +9,3 @@ pub mod Rounding
 pub mod Run
 pub mod Sum
 pub mod Theorems
-pub mod Verdict

@@ -1,17 +1,14 @@
--- The filter and the headroom check over lists of integers: document 01, modules 7 and 8. A history is a list of samples, newest first.
+-- The filter over lists of integers: document 01, module 7. A history is a list of samples, newest first.
 -- Assumes nothing.
 use mathlib.Core.Bool.{Bool, true, false, cond, not}
-use mathlib.Core.List.{List, [], _∷_, map}
+use mathlib.Core.List.{List, [], _∷_}
 use Prim.Native.Nat.{ℕ, _+_, _^_}
 use lib.Dec.{leb, eqb}
 use lib.IntN.{ℤ, pos, _+ℤ_, _*ℤ_}
 use lib.ListN.{take, replicate}
-use lib.Signed.{ltZ}
 use Rattle.laws.specs.Floor.{floor}
-use Rattle.format.specs.Meaning.{signed, lowest, highest, fits, hold}
+use Rattle.format.specs.Meaning.{signed, fits, hold}
 use Rattle.filter.specs.declared.State.{State}
-use Rattle.filter.specs.declared.peak.Way.{Way}
-use Rattle.filter.specs.declared.peak.Way.the-variants.{High, Low}
 
 -- "The state holds the last 64 samples"; "40: taps not 1 to 64"
 abbrev pub mostTaps : ℕ
@@ -97,35 +94,3 @@ tapsFault n = cond (eqb n 0) 40 (cond (leb n mostTaps) 0 40)
 
 unfoldable pub blockFault : ℕ → ℕ → ℕ → ℕ → ℕ
 blockFault n samples outputs clips = cond (eqb samples outputs) (cond (eqb samples clips) (tapsFault n) 5) 5
-
-unfoldable pub headFault : ℕ → ℕ → ℕ
-headFault n places = cond (eqb n places) (tapsFault n) 5
-
--- Headroom. "each is the end of the range that drives its term furthest that way, and 0 for a zero tap"
-unfoldable pub bySign : ℤ → ℤ → ℤ → ℤ
-bySign tap above below = cond (ltZ (pos 0) tap) above (cond (ltZ tap (pos 0)) below (pos 0))
-
-unfoldable pub drivenOf : Way → ℤ → ℤ
-drivenOf High tap = bySign tap (highest signed 16) (lowest signed 16)
-drivenOf Low tap = bySign tap (lowest signed 16) (highest signed 16)
-
--- "n samples, newest first, that clip that way"
-abbrev pub driving : Way → List ℤ → List ℤ
-driving way taps = map (drivenOf way) taps
-
--- past the end of the range that way
-unfoldable pub passes : Way → ℤ → Bool
-passes High y = ltZ (highest signed 16) y
-passes Low y = ltZ y (lowest signed 16)
-
--- what the taps make of the samples that drive them furthest that way (Theorems: no samples reach further)
-unfoldable pub clipsWay : Way → List ℤ → Bool
-clipsWay way taps = passes way (levelOf taps (driving way taps))
-
--- "Verdict 0: no samples clip. 1: some samples clip high; 2: none clip high, some clip low." (Theorems: `sound`, `complete`)
-unfoldable pub verdictOf : List ℤ → ℕ
-verdictOf taps = cond (clipsWay High taps) 1 (cond (clipsWay Low taps) 2 0)
-
--- "With 1 or 2 the lent sample buffer, of exactly n places, holds n samples"; "With 0 it is unchanged."
-unfoldable pub witnessOf : List ℤ → List ℤ → List ℤ
-witnessOf taps before = cond (clipsWay High taps) (driving High taps) (cond (clipsWay Low taps) (driving Low taps) before)

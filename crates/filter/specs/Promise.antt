@@ -13,7 +13,7 @@ use Rattle.format.specs.declared.UnsignedAnswer.{UnsignedAnswer}
 use Rattle.format.specs.declared.UnsignedAnswer.the-variants.{Done as DoneU, Refused as RefusedU}
 use Rattle.filter.specs.declared.State.{State}
 use Rattle.filter.specs.declared.Stepped.{Stepped}
-use Rattle.filter.specs.Meaning.{history, stateOf, silence, next, outputOf, clipOf, bitOf, clipped, Run, runOf, tapsFault, blockFault, headFault, verdictOf, witnessOf}
+use Rattle.filter.specs.Meaning.{history, stateOf, silence, next, outputOf, clipOf, bitOf, clipped, Run, runOf, tapsFault, blockFault}
 
 -- what is done where nothing is refused, and else what a refusal leaves
 unfoldable pub unless : {A : Type 0} → ℕ → (ℕ → A) → A → A
@@ -58,23 +58,6 @@ ranOf taps state samples outputs marks =
 abbrev pub Runs : List ℤ → State → List ℤ → List ℤ → List ℕ → UnsignedAnswer → State → List ℤ → List ℕ → Type 0
 Runs taps state samples outputs marks r state' outputs' marks' = ran r state' outputs' marks' ≡ ranOf taps state samples outputs marks
 
--- ---- headroom: the verdict, and the witness as the call leaves it
-pub record Headed : Type 0 where
-  pub answer : UnsignedAnswer
-  pub witness : List ℤ
-
-abbrev pub headed : UnsignedAnswer → List ℤ → Headed
-headed answer witness = record { answer = answer; witness = witness }
-
-unfoldable pub headroomOf : List ℤ → List ℤ → Headed
-headroomOf taps witness =
-    unless (headFault (length taps) (length witness))
-    (λ n. headed (RefusedU n) witness)
-    (headed (DoneU (verdictOf taps) false) (witnessOf taps witness))
-
-abbrev pub Heads : List ℤ → List ℤ → UnsignedAnswer → List ℤ → Type 0
-Heads taps witness r witness' = headed r witness' ≡ headroomOf taps witness
-
 -- ---- one outcome each
 pub silent-unique : (r s : State) → Silent r → Silent s → r ≡ s
 silent-unique r s p q = p ∙ sym q
@@ -89,8 +72,3 @@ module _ (taps : List ℤ) (state : State) (samples outputs : List ℤ) (marks :
   run-unique a b s t o p m n h k =
       let e = h ∙ sym k in
       (ap (λ (r : Ran). r .answer) e, (ap (λ (r : Ran). r .state) e, (ap (λ (r : Ran). r .outputs) e, ap (λ (r : Ran). r .marks) e)))
-
-pub headroom-unique : (taps witness : List ℤ) (a b : UnsignedAnswer) (w v : List ℤ) → Heads taps witness a w → Heads taps witness b v → (a ≡ b) × (w ≡ v)
-headroom-unique taps witness a b w v h k =
-    let e = h ∙ sym k in
-    (ap (λ (r : Headed). r .answer) e, ap (λ (r : Headed). r .witness) e)

@@ -1,7 +1,7 @@
--- The raws of I1F15, and what holding does to a number by where it lies: past one end, past the other, or inside. By the laws of the format.
+-- The raws of I1F15, and what holding does to a number by where it lies: below the range, above it, or in it. By the laws of the format.
 -- Assumes nothing.
-use mathlib.Core.Path.{_≡_, refl, sym, ap, _∙_}
-use mathlib.Core.Bool.{Bool, true, false, cond, not, false≢true}
+use mathlib.Core.Path.{_≡_, refl, ap}
+use mathlib.Core.Bool.{Bool, true, false, not, true≢false}
 use mathlib.Core.List.{List, [], _∷_, _++_, reverse, reverse-cons}
 use Prim.Native.Nat.{ℕ, zero, suc}
 use lib.IntN.{ℤ, pos}
@@ -11,11 +11,9 @@ use mir.Syntax.{w16}
 use mir.Val.{SFits}
 use Rattle.laws.specs.Signed.{signed as kit}
 use Rattle.laws.specs.Tests.{ltZ-true, ltZ-false}
-use Rattle.format.specs.Meaning.{signed, lowest, highest}
-use Rattle.format.specs.Theorems.{InRange, in-fits, unfit-iff, hold-low, hold-high, hold-id}
-use Rattle.filter.specs.declared.peak.Way.{Way}
-use Rattle.filter.specs.declared.peak.Way.the-variants.{High, Low}
-use Rattle.filter.specs.Meaning.{mostTaps, next, after, held, clips, bySign, drivenOf, passes}
+use Rattle.format.specs.Meaning.{signed, lowest, highest, fits}
+use Rattle.format.specs.Theorems.{InRange, fits-in, in-fits, unfit-iff, hold-in, hold-low, hold-high, hold-id}
+use Rattle.filter.specs.Meaning.{mostTaps, next, after, held, clips}
 
 -- a raw of I1F15, and a list of them
 abbrev pub Sample : ℤ → Type 0
@@ -29,34 +27,9 @@ pub sample-sfits : (x : ℤ) → Sample x → SFits w16 x
 unfolding lowest highest
 sample-sfits x h = omega kit
 
--- 0 and the two ends
 pub zero-sample : Sample (pos 0)
 unfolding lowest highest
 zero-sample = record { low = omega kit; high = omega kit }
-
-unfoldable pub endOf : Way → ℤ
-endOf High = highest signed 16
-endOf Low = lowest signed 16
-
-end-sample : (way : Way) → Sample (endOf way)
-unfolding endOf lowest highest
-end-sample High = record { low = omega kit; high = omega kit }
-end-sample Low = record { low = omega kit; high = omega kit }
-
--- a driving sample is one of these
-by-sign-sample : (t above below : ℤ) → Sample above → Sample below → Sample (bySign t above below)
-unfolding bySign
-by-sign-sample t above below a b = go (ltZ (pos 0) t) (ltZ t (pos 0))
-  where
-    go : (p n : Bool) → Sample (cond p above (cond n below (pos 0)))
-    go true n = a
-    go false true = b
-    go false false = zero-sample
-
-pub driven-sample : (way : Way) (t : ℤ) → Sample (drivenOf way t)
-unfolding drivenOf endOf
-driven-sample High t = by-sign-sample t (endOf High) (endOf Low) (end-sample High) (end-sample Low)
-driven-sample Low t = by-sign-sample t (endOf Low) (endOf High) (end-sample Low) (end-sample High)
 
 -- lists of samples: a part, a list behind another, the list the other way round, zeros, the next history, the history after a block
 samples-take : (n : ℕ) (xs : List ℤ) → Samples xs → Samples (take n xs)
@@ -85,62 +58,35 @@ unfolding after
 samples-after h [] s k = s
 samples-after h (x ∷ xs) s (more a k) = samples-after (next h x) xs (samples-next h x s a) k
 
--- where a number lies
-pub data Lies (y : ℤ) : Type 0 where
-  past : (way : Way) → passes way y ≡ true → Lies y
-  inside : passes High y ≡ false → passes Low y ≡ false → Lies y
-
-pub lies : (y : ℤ) → Lies y
-lies y = go (passes High y) (passes Low y) refl refl
-  where
-    go : (a b : Bool) → passes High y ≡ a → passes Low y ≡ b → Lies y
-    go true b e f = past High e
-    go false true e f = past Low f
-    go false false e f = inside e f
-
--- past an end, it is no sample
-past-out : (way : Way) (y : ℤ) → passes way y ≡ true → Sample y → ⊥
-unfolding passes
-past-out High y h r = clashℤ (ltZ-true (highest signed 16) y h) (r .high)
-past-out Low y h r = clashℤ (ltZ-true y (lowest signed 16) h) (r .low)
-
-pub zero-inside : (way : Way) → passes way (pos 0) ≡ true → ⊥
-zero-inside way h = past-out way (pos 0) h zero-sample
-
--- it is held to that end, and that is a clip
-pub past-clips : (way : Way) (y : ℤ) → passes way y ≡ true → (clips y ≡ true) × (held y ≡ endOf way)
-unfolding passes clips held endOf
-past-clips High y h =
-    (ap not (unfit-iff signed 16 y .1 (past-out High y h)), hold-high signed 16 y (ltZ-true (highest signed 16) y h))
-past-clips Low y h =
-    (ap not (unfit-iff signed 16 y .1 (past-out Low y h)), hold-low signed 16 y (ltZ-true y (lowest signed 16) h))
-
--- inside, it is a sample, and nothing changes
-pub inside-in : (y : ℤ) → passes High y ≡ false → passes Low y ≡ false → Sample y
-unfolding passes
-inside-in y h l = record { low = ltZ-false y (lowest signed 16) l; high = ltZ-false (highest signed 16) y h }
-
-pub inside-keeps : (y : ℤ) → passes High y ≡ false → passes Low y ≡ false → (clips y ≡ false) × (held y ≡ y)
+-- below and above, a number is held to that end, and that is a clip; else it is a sample
+pub below-clips : (y : ℤ) → ltZ y (lowest signed 16) ≡ true → (clips y ≡ true) × (held y ≡ lowest signed 16)
 unfolding clips held
-inside-keeps y h l =
-    let r = inside-in y h l in
-    (ap not (in-fits r), hold-id signed 16 y r)
+below-clips y h =
+    let l = ltZ-true y (lowest signed 16) h in
+    (ap not (unfit-iff signed 16 y .1 (λ r. clashℤ l (r .low))), hold-low signed 16 y l)
 
--- a number past an end is not that end
-pub past-end : (way : Way) (y : ℤ) → passes way y ≡ true → endOf way ≡ y → ⊥
-past-end way y h e = past-out way y h (rw e at (end-sample way))
+pub above-clips : (y : ℤ) → ltZ (highest signed 16) y ≡ true → (clips y ≡ true) × (held y ≡ highest signed 16)
+unfolding clips held
+above-clips y h =
+    let l = ltZ-true (highest signed 16) y h in
+    (ap not (unfit-iff signed 16 y .1 (λ r. clashℤ l (r .high))), hold-high signed 16 y l)
 
--- a clip that is held to an end is past that end
-ends-differ : endOf High ≡ endOf Low → ⊥
-unfolding endOf lowest highest
-ends-differ e = omega kit
+pub between : (y : ℤ) → ltZ y (lowest signed 16) ≡ false → ltZ (highest signed 16) y ≡ false → Sample y
+between y l h = record { low = ltZ-false y (lowest signed 16) l; high = ltZ-false (highest signed 16) y h }
 
-pub clips-past : (way : Way) (y : ℤ) → clips y ≡ true → held y ≡ endOf way → passes way y ≡ true
-clips-past way y c e = pick way e (lies y)
+-- a sample is held as it is, with the clip flag clear; what has the flag clear is a sample; and so is what is held
+pub sample-keeps : (y : ℤ) → Sample y → (clips y ≡ false) × (held y ≡ y)
+unfolding clips held
+sample-keeps y r = (ap not (in-fits r), hold-id signed 16 y r)
+
+pub unclipped : (y : ℤ) → clips y ≡ false → Sample y
+unfolding clips
+unclipped y c = go (fits signed 16 y) refl c
   where
-    pick : (way : Way) → held y ≡ endOf way → Lies y → passes way y ≡ true
-    pick High e (past High h) = h
-    pick High e (past Low h) = absurd (ends-differ (sym e ∙ past-clips Low y h .1))
-    pick Low e (past High h) = absurd (ends-differ (sym (past-clips High y h .1) ∙ e))
-    pick Low e (past Low h) = h
-    pick way e (inside h l) = absurd (false≢true (sym (inside-keeps y h l .0) ∙ c))
+    go : (t : Bool) → fits signed 16 y ≡ t → not t ≡ false → Sample y
+    go true e c = fits-in signed 16 y e
+    go false e c = absurd (true≢false c)
+
+pub held-sample : (y : ℤ) → Sample (held y)
+unfolding held
+held-sample y = hold-in signed 16 y

@@ -7,7 +7,7 @@ use Prim.Native.Nat.{ℕ, _≤_}
 use native.Mathlib.Omega.{arith}
 use lib.Dec.{eqb, leb}
 use borrow.Author.Tests.{ne-eqb, eqb-true, leb-true}
-use Rattle.filter.specs.Meaning.{mostTaps, tapsFault, blockFault, headFault}
+use Rattle.filter.specs.Meaning.{mostTaps, tapsFault, blockFault}
 use Rattle.filter.specs.Promise.{unless}
 
 -- ---- what is known where nothing is refused
@@ -21,7 +21,7 @@ taps-few n h = go (eqb n 0) (leb n mostTaps) refl h
     go false false e h = absurd (omega arith)
 
 -- lists of one length, and then what the rest says
-same-then : (a b rest : ℕ) → cond (eqb a b) rest 5 ≡ 0 → (a ≡ b) × (rest ≡ 0)
+pub same-then : (a b rest : ℕ) → cond (eqb a b) rest 5 ≡ 0 → (a ≡ b) × (rest ≡ 0)
 same-then a b rest h = go (eqb a b) refl h
   where
     go : (t : Bool) → eqb a b ≡ t → cond t rest 5 ≡ 0 → (a ≡ b) × (rest ≡ 0)
@@ -39,12 +39,6 @@ block-fit n samples outputs clips h =
     let a = same-then samples outputs (cond (eqb samples clips) (tapsFault n) 5) h in
     let b = same-then samples clips (tapsFault n) (a .1) in
     record { outputs-fit = omega arith; clips-fit = omega arith; few = taps-few n (b .1) }
-
-pub head-fit : (n places : ℕ) → headFault n places ≡ 0 → (n ≡ places) × (n ≤ mostTaps)
-unfolding headFault
-head-fit n places h =
-    let a = same-then n places (tapsFault n) h in
-    (a .0, taps-few n (a .1))
 
 -- ---- what a refusal leaves, and what is done without one: r is the number that the code has
 module _ {A : Type 0} (r fault : ℕ) (refused : ℕ → A) (done : A) (e : r ≡ fault) where

@@ -1,53 +1,44 @@
--- The facts that the filter and the headroom check are for, stated of the meaning of the filter itself. Assumes nothing.
-use mathlib.Core.Path.{_≡_, refl, sym, ap, _∙_}
-use mathlib.Core.Logic.{_↔_, _⊎_, inl, inr}
-use mathlib.Core.Bool.{true, false, false≢true}
+-- What is proved of the filter: of one output, of its exact sum, and of a run. Assumes nothing.
+use mathlib.Core.Path.{_≡_, refl, sym, _∙_}
+use mathlib.Core.Logic.{_↔_}
+use mathlib.Core.Bool.{Bool, true, false, false≢true}
 use mathlib.Core.List.{List, [], _∷_, _++_, reverse}
-use Prim.Native.Nat.{ℕ, _+_, _*_, _^_, _≤_, _<_}
+use Prim.Native.Nat.{_*_, _^_, _≤_, _<_}
 use native.Mathlib.Omega.{arith}
 use lib.IntN.{ℤ, pos, natAbs, _-ℤ_, _*ℤ_}
-use lib.ListN.{length, take, length-map}
+use lib.ListN.{length, take}
 use mir.Syntax.{w64}
 use mir.Val.{SFits}
 use Rattle.laws.specs.Bound.{abs-add-le, abs-sfits, sfits-mul}
 use Rattle.format.specs.declared.SignedAnswer.the-variants.{Done}
-use Rattle.format.specs.declared.UnsignedAnswer.the-variants.{Done as DoneU, Refused as RefusedU}
 use Rattle.format.specs.Meaning.{valueS, flagS}
-use Rattle.filter.specs.declared.State.{State}
 use Rattle.filter.specs.declared.Stepped.{Stepped}
-use Rattle.filter.specs.declared.peak.Way.{Way}
-use Rattle.filter.specs.declared.peak.Way.the-variants.{High, Low}
-use Rattle.filter.specs.Ends.{Ends, ends-clipped}
-use Rattle.filter.specs.Verdict.{driving-samples, fed, Told, high, low, neither, told, drives, spares, quiet}
-use Rattle.filter.specs.Meaning.{mostTaps, history, silence, next, sumOf, rounded, held, clips, levelOf, outputOf, clipOf, after, outputsOf, clipsOf, Run, runOf, clipped, tapsFault, headFault, blockFault, drivenOf, driving, clipsWay, verdictOf, witnessOf}
-use Rattle.filter.specs.Promise.{unless, stepped, stepOf, Ran, ran, done, ranOf, Runs, Headed, headed, headroomOf, Heads}
-use Rattle.filter.specs.Refuse.{which, head-fit}
-use Rattle.filter.specs.Range.{Samples, more, sample-sfits, samples-after, samples-reverse, samples-zeros, Lies, past, inside, lies, past-clips, inside-keeps, past-end}
+use Rattle.filter.specs.Meaning.{mostTaps, history, next, sumOf, rounded, held, clips, levelOf, outputOf, clipOf, after, outputsOf, clipsOf, Run, runOf, tapsFault}
+use Rattle.filter.specs.Promise.{unless, stepped, stepOf}
+use Rattle.filter.specs.Range.{Sample, Samples, more, sample-sfits, sample-keeps, unclipped, held-sample}
 use Rattle.filter.specs.Rounding.{rounded-near}
 use Rattle.filter.specs.Run.{after-append, outputs-append, clips-append, after-is}
-use Rattle.filter.specs.Drive.{Within, sum-within}
 
 -- ---- One output.
 -- "the clip flag is set exactly if holding changed it"
 pub clips-changed : (y : ℤ) → (clips y ≡ true) ↔ (held y ≡ y → ⊥)
-clips-changed y = (λ c e. changed c e (lies y), λ n. unchanged n (lies y))
+clips-changed y = (changed, λ n. unchanged (clips y) refl n)
   where
-    changed : clips y ≡ true → held y ≡ y → Lies y → ⊥
-    changed c e (past way h) = past-end way y h (sym (past-clips way y h .1) ∙ e)
-    changed c e (inside h l) = absurd (false≢true (sym (inside-keeps y h l .0) ∙ c))
+    changed : clips y ≡ true → held y ≡ y → ⊥
+    changed c e =
+        let r : Sample y = rw e at (held-sample y) in
+        false≢true (sym (sample-keeps y r .0) ∙ c)
 
-    unchanged : (held y ≡ y → ⊥) → Lies y → clips y ≡ true
-    unchanged n (past way h) = past-clips way y h .0
-    unchanged n (inside h l) = absurd (n (inside-keeps y h l .1))
+    unchanged : (t : Bool) → clips y ≡ t → (held y ≡ y → ⊥) → t ≡ true
+    unchanged true c n = refl
+    unchanged false c n = absurd (n (sample-keeps y (unclipped y c) .1))
 
 -- where nothing clips, the output is less than one step from the exact quotient P / 2^15
 pub output-near : (taps h : List ℤ) → clipOf taps h ≡ false → natAbs (sumOf taps h -ℤ outputOf taps h *ℤ pos (2 ^ 15)) < 2 ^ 15
 unfolding clipOf outputOf levelOf
-output-near taps h c = go (lies (rounded (sumOf taps h)))
-  where
-    go : Lies (rounded (sumOf taps h)) → natAbs (sumOf taps h -ℤ held (rounded (sumOf taps h)) *ℤ pos (2 ^ 15)) < 2 ^ 15
-    go (past way k) = absurd (false≢true (sym c ∙ past-clips way (rounded (sumOf taps h)) k .0))
-    go (inside k l) = rw (inside-keeps (rounded (sumOf taps h)) k l .1) (rounded-near (sumOf taps h))
+output-near taps h c =
+    let y = rounded (sumOf taps h) in
+    rw (sample-keeps y (unclipped y c) .1) (rounded-near (sumOf taps h))
 
 -- the exact sum is at most 2^30 for each tap, 2^36 for 64: the word of 63 bits and a sign has 27 bits to spare
 sum-abs : (taps h : List ℤ) → Samples taps → Samples h → natAbs (sumOf taps h) ≤ length taps * 2 ^ 30
@@ -96,145 +87,3 @@ run-cut taps h xs ys = rw (outputs-append, clips-append, after-append)
 pub final-history : (taps h xs : List ℤ) → length h ≤ mostTaps → runOf taps h xs .final ≡ take mostTaps (reverse xs ++ h)
 unfolding runOf
 final-history taps h xs e = after-is h xs e
-
--- ---- The samples that drive the sum furthest: `driving`, each the end of the range for its tap.
--- no samples, from any state of samples, drive the sum further; and the bound is attained
-pub furthest : (way : Way) (taps h xs : List ℤ) → Samples h → Samples xs → Within way (sumOf taps (runOf taps h xs .final)) (sumOf taps (driving way taps))
-unfolding runOf
-furthest way taps h xs s k = sum-within way taps (after h xs) (samples-after h xs s k)
-
-pub attained : (way : Way) (taps h : List ℤ) → length taps ≤ mostTaps → length h ≤ mostTaps → sumOf taps (runOf taps h (reverse (driving way taps)) .final) ≡ sumOf taps (driving way taps)
-unfolding runOf
-attained way taps h few k = fed taps (driving way taps) h (length-map taps (drivenOf way)) few k
-
--- ---- The verdict. `Ends way r`: the last output of the run r has its clip flag set, and is held to that end.
--- SOUND. Verdict 0: from any state of samples, silence among them, no samples make any output clip.
-pub sound : (taps h xs : List ℤ) → verdictOf taps ≡ 0 → Samples h → Samples xs → clipped (runOf taps h xs .flags) ≡ 0
-unfolding runOf
-sound taps h xs e s k = go (told taps)
-  where
-    go : Told taps → clipped (clipsOf taps h xs) ≡ 0
-    go (high a v w) = absurd (omega arith)
-    go (low a b v w) = absurd (omega arith)
-    go (neither a b v) = quiet taps h xs a b s k
-
--- COMPLETE. No samples make any output clip, from silence or from any one state: then the verdict is 0.
-pub complete : (taps h : List ℤ) → length taps ≤ mostTaps → length h ≤ mostTaps → ((xs : List ℤ) → Samples xs → clipped (runOf taps h xs .flags) ≡ 0) → verdictOf taps ≡ 0
-complete taps h few k all = go (told taps)
-  where
-    found : (way : Way) → clipsWay way taps ≡ true → ⊥
-    found way c =
-        let w = reverse (driving way taps) in
-        let some = ends-clipped way (runOf taps h w) (drives way taps h few k c) in
-        omega (arith, all w (samples-reverse (driving way taps) (driving-samples way taps)))
-
-    go : Told taps → verdictOf taps ≡ 0
-    go (high a v w) = absurd (found High a)
-    go (low a b v w) = absurd (found Low b)
-    go (neither a b v) = v
-
--- The two together, from silence: verdict 0 exactly if no samples whatever make any output clip. And the same from any state of samples.
-silence-samples : Samples silence
-silence-samples = samples-zeros mostTaps
-
-pub verdict-0 : (taps : List ℤ) → length taps ≤ mostTaps → (verdictOf taps ≡ 0) ↔ ((xs : List ℤ) → Samples xs → clipped (runOf taps silence xs .flags) ≡ 0)
-verdict-0 taps few = (λ e xs k. sound taps silence xs e silence-samples k, λ all. complete taps silence few (omega arith) all)
-
-pub verdict-0-any : (taps h : List ℤ) → length taps ≤ mostTaps → length h ≤ mostTaps → Samples h → (verdictOf taps ≡ 0) ↔ ((xs : List ℤ) → Samples xs → clipped (runOf taps h xs .flags) ≡ 0)
-verdict-0-any taps h few k s = (λ e xs t. sound taps h xs e s t, λ all. complete taps h few k all)
-
--- Verdict 1: the witness, fed oldest first, makes the last output clip high. Verdict 2: no samples clip high, and the witness makes the last output
--- clip low. Both from any state, silence among them; `before` is what the witness buffer held.
-pub verdict-1 : (taps h before : List ℤ) → length taps ≤ mostTaps → length h ≤ mostTaps → verdictOf taps ≡ 1 → Ends High (runOf taps h (reverse (witnessOf taps before)))
-verdict-1 taps h before few k e = go (told taps)
-  where
-    go : Told taps → Ends High (runOf taps h (reverse (witnessOf taps before)))
-    go (high a v w) = rw (w before) (drives High taps h few k a)
-    go (low a b v w) = absurd (omega arith)
-    go (neither a b v) = absurd (omega arith)
-
-pub verdict-2 : (taps h before : List ℤ) → length taps ≤ mostTaps → length h ≤ mostTaps → verdictOf taps ≡ 2 → Ends Low (runOf taps h (reverse (witnessOf taps before)))
-verdict-2 taps h before few k e = go (told taps)
-  where
-    go : Told taps → Ends Low (runOf taps h (reverse (witnessOf taps before)))
-    go (high a v w) = absurd (omega arith)
-    go (low a b v w) = rw (w before) (drives Low taps h few k b)
-    go (neither a b v) = absurd (omega arith)
-
--- and the other way: samples that clip high are found as 1, whatever else clips; so with verdict 0 or 2 none clip high
-pub ends-high : (taps h xs : List ℤ) → Samples h → Samples xs → Ends High (runOf taps h xs) → verdictOf taps ≡ 1
-ends-high taps h xs s k end = go (told taps)
-  where
-    go : Told taps → verdictOf taps ≡ 1
-    go (high a v w) = v
-    go (low a b v w) = absurd (spares High taps h xs a s k end)
-    go (neither a b v) = absurd (spares High taps h xs a s k end)
-
-pub verdict-2-high : (taps h xs : List ℤ) → verdictOf taps ≡ 2 → Samples h → Samples xs → Ends High (runOf taps h xs) → ⊥
-verdict-2-high taps h xs e s k end = omega (arith, ends-high taps h xs s k end)
-
--- samples that clip low, where none clip high, are found as 2
-pub ends-low : (taps h xs : List ℤ) → Samples h → Samples xs → Ends Low (runOf taps h xs) → (verdictOf taps ≡ 1 → ⊥) → verdictOf taps ≡ 2
-ends-low taps h xs s k end not-high = go (told taps)
-  where
-    go : Told taps → verdictOf taps ≡ 2
-    go (high a v w) = absurd (not-high v)
-    go (low a b v w) = v
-    go (neither a b v) = absurd (spares Low taps h xs b s k end)
-
--- either way, the witness makes an output clip
-pub witness-clips : (taps h before : List ℤ) → length taps ≤ mostTaps → length h ≤ mostTaps → (verdictOf taps ≡ 0 → ⊥) → 0 < clipped (runOf taps h (reverse (witnessOf taps before)) .flags)
-witness-clips taps h before few k some = go (told taps)
-  where
-    go : Told taps → 0 < clipped (runOf taps h (reverse (witnessOf taps before)) .flags)
-    go (high a v w) = rw (w before) (ends-clipped High (runOf taps h (reverse (driving High taps))) (drives High taps h few k a))
-    go (low a b v w) = rw (w before) (ends-clipped Low (runOf taps h (reverse (driving Low taps))) (drives Low taps h few k b))
-    go (neither a b v) = absurd (some v)
-
--- ---- The public functions together, by their promises alone: `Heads` is what `headroom` promises, `Runs` what `run` does.
--- an answer that is done is the meaning's, and not a refusal's
-same-value : {v w : ℕ} → DoneU v false ≡ DoneU w false → v ≡ w
-same-value e = cc
-
-not-refused : {v n : ℕ} {A : Type 0} → DoneU v false ≡ RefusedU n → A
-not-refused e =
-    let z : _≡_ {A = ℕ} 0 1 = cc in
-    absurd (omega arith)
-
-head-done : (taps witness kept : List ℤ) (v : ℕ) → Heads taps witness (DoneU v false) kept → (length taps ≤ mostTaps) × ((v ≡ verdictOf taps) × (kept ≡ witnessOf taps witness))
-unfolding headroomOf
-head-done taps witness kept v p = pick (which _ _ _ p)
-  where
-    pick : ((headFault (length taps) (length witness) ≡ 0) × (headed (DoneU v false) kept ≡ headed (DoneU (verdictOf taps) false) (witnessOf taps witness)))
-        ⊎ (headed (DoneU v false) kept ≡ headed (RefusedU (headFault (length taps) (length witness))) witness)
-        → (length taps ≤ mostTaps) × ((v ≡ verdictOf taps) × (kept ≡ witnessOf taps witness))
-    pick (inl h) = (head-fit (length taps) (length witness) (h .0) .1, (same-value (ap (λ (r : Headed). r .answer) (h .1)), ap (λ (r : Headed). r .witness) (h .1)))
-    pick (inr h) = not-refused (ap (λ (r : Headed). r .answer) h)
-
-run-done : (taps : List ℤ) (state state' : State) (samples outputs outputs' : List ℤ) (marks marks' : List ℕ) (n : ℕ)
-    → Runs taps state samples outputs marks (DoneU n false) state' outputs' marks' → n ≡ clipped (runOf taps (history state) samples .flags)
-unfolding ranOf
-run-done taps state state' samples outputs outputs' marks marks' n p = pick (which _ _ _ p)
-  where
-    pick : ((blockFault (length taps) (length samples) (length outputs) (length marks) ≡ 0) × (ran (DoneU n false) state' outputs' marks' ≡ done (runOf taps (history state) samples)))
-        ⊎ (ran (DoneU n false) state' outputs' marks' ≡ ran (RefusedU (blockFault (length taps) (length samples) (length outputs) (length marks))) state outputs marks)
-        → n ≡ clipped (runOf taps (history state) samples .flags)
-    pick (inl h) = same-value (ap (λ (r : Ran). r .answer) (h .1))
-    pick (inr h) = not-refused (ap (λ (r : Ran). r .answer) h)
-
-module _ (taps witness kept : List ℤ) (state state' : State) (samples outputs outputs' : List ℤ) (marks marks' : List ℕ) (n : ℕ) where
-  -- NO SQUEAL. `headroom` answers 0: then `run`, on any block of samples from any state of samples, counts no clip.
-  pub no-squeal : Heads taps witness (DoneU 0 false) kept → Samples (history state) → Samples samples
-      → Runs taps state samples outputs marks (DoneU n false) state' outputs' marks' → n ≡ 0
-  no-squeal p s k q =
-      run-done taps state state' samples outputs outputs' marks marks' n q
-      ∙ sound taps (history state) samples (sym (head-done taps witness kept 0 p .1 .0)) s k
-
-  -- `headroom` answers 1 or 2: then `run`, on the witness it leaves, oldest first, from any state, counts one.
-  pub squeal : (v : ℕ) → Heads taps witness (DoneU (v + 1) false) kept → length (history state) ≤ mostTaps → samples ≡ reverse kept
-      → Runs taps state samples outputs marks (DoneU n false) state' outputs' marks' → 0 < n
-  squeal v p l e q =
-      let h = head-done taps witness kept (v + 1) p in
-      let fed : samples ≡ reverse (witnessOf taps witness) = e ∙ ap reverse (h .1 .1) in
-      let count = run-done taps state state' samples outputs outputs' marks marks' n q in
-      rw (count, fed) (witness-clips taps (history state) witness (h .0) l (λ z. omega (arith, h .1 .0)))

@@ -1,14 +1,14 @@
 // What is refused before any work: 5 for lists of unequal length, then 40 for the number of taps; 0 for nothing.
 ghost use mathlib.Core.Path.{_≡_};
-ghost use Rattle.filter.specs.Meaning.{tapsFault, blockFault, headFault};
+ghost use Rattle.filter.specs.Meaning.{tapsFault, blockFault};
 use super::TAPS;
 
-const UNEQUAL: u32 = 5;
+pub const UNEQUAL: u32 = 5;
 
 const WRONG_TAPS: u32 = 40;
 
 // Taps not 1 to 64.
-pub(crate) fn taps(n: usize) -> u32
+pub fn taps(n: usize) -> u32
     ensures { λ r. ⌜ r ≡ tapsFault n ⌝ }
 {
     if n == 0 {
@@ -28,16 +28,6 @@ pub(crate) fn block(n: usize, samples: usize, outputs: usize, clips: usize) -> u
         return UNEQUAL;
     }
     if samples != clips {
-        return UNEQUAL;
-    }
-    taps(n)
-}
-
-// A place of the witness for each tap.
-pub(crate) fn headroom(n: usize, places: usize) -> u32
-    ensures { λ r. ⌜ r ≡ headFault n places ⌝ }
-{
-    if n != places {
         return UNEQUAL;
     }
     taps(n)

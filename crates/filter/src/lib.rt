@@ -1,12 +1,11 @@
-// The filter and the headroom check (01, modules 7 and 8). Taps and samples are I1F15 raws; the newest sample stands first.
+// The filter (01, module 7). Taps and samples are I1F15 raws; the newest sample stands first.
 ghost use Rattle.filter.specs.Meaning.{stateOf};
-ghost use Rattle.filter.specs.Promise.{Silent, Steps, Runs, Heads};
+ghost use Rattle.filter.specs.Promise.{Silent, Steps, Runs};
 
 mod block;
-mod fault;
+pub mod fault;
 mod line;
-mod peak;
-mod sum;
+pub mod sum;
 
 use format::SignedAnswer;
 use format::UnsignedAnswer;
@@ -77,20 +76,6 @@ pub fn run(
     *state = line;
     UnsignedAnswer::Done {
         raw: count,
-        flag: false,
-    }
-}
-
-// Whether any samples can make these taps clip: the verdict, and with 1 or 2 the samples that do, newest first.
-pub fn headroom(taps: &[i16], witness: &mut [i16]) -> UnsignedAnswer
-    ensures { λ r. ⌜ Heads (now (taps .entry)) (now (witness .entry)) r (now (witness .exit)) ⌝ }
-{
-    let fault = fault::headroom(taps.len(), witness.len());
-    if fault != 0 {
-        return UnsignedAnswer::Refused(fault);
-    }
-    UnsignedAnswer::Done {
-        raw: peak::verdict(taps, witness),
         flag: false,
     }
 }

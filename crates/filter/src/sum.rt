@@ -45,7 +45,7 @@ fn round(p: i64) -> i64
 }
 
 // The output before it is held.
-pub(crate) fn level(taps: &[i16], line: &[i16; TAPS]) -> i64
+pub fn level(taps: &[i16], line: &[i16; TAPS]) -> i64
     requires { ⌜ length (now taps) ≤ mostTaps ⌝ }
     requires { ⌜ length (now line) ≡ mostTaps ⌝ }
     ensures { λ r. ⌜ r ≡ levelOf (now (taps .entry)) (now (line .entry)) ⌝ }

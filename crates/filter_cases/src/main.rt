@@ -17,7 +17,7 @@ fn main() {
 fn one(tap: i16) {
     let taps = [tap];
     let mut witness = [0i16; 1];
-    let verdict = value(filter::headroom(&taps, &mut witness));
+    let verdict = value(headroom::headroom(&taps, &mut witness));
     print(b" verdict ", verdict);
     if 0 < verdict {
         let fed = [witness[0]];
@@ -31,7 +31,7 @@ fn one(tap: i16) {
 fn two(first: i16, second: i16) {
     let taps = [first, second];
     let mut witness = [0i16; 2];
-    let verdict = value(filter::headroom(&taps, &mut witness));
+    let verdict = value(headroom::headroom(&taps, &mut witness));
     print(b" verdict ", verdict);
     if 0 < verdict {
         let fed = [witness[1], witness[0]];

@@ -18,7 +18,7 @@ pub(crate) fn show(taps: &[i16]) {
 }
 
 fn judged(taps: &[i16], witness: &mut [i16]) {
-    let answer = filter::headroom(taps, witness);
+    let answer = headroom::headroom(taps, witness);
     let UnsignedAnswer::Done {
         raw: verdict,
         flag: _,

@@ -6,9 +6,10 @@ use Prim.Native.Nat.{_+_, _<_}
 use native.Mathlib.Omega.{arith}
 use lib.IntN.{ℤ, pos}
 use lib.ListN.{length}
-use Rattle.filter.specs.declared.peak.Way.{Way}
-use Rattle.filter.specs.Meaning.{next, levelOf, outputOf, clipOf, after, outputsOf, clipsOf, Run, runOf, bitOf, clipped, passes}
-use Rattle.filter.specs.Range.{endOf, past-clips, clips-past}
+use Rattle.filter.specs.Meaning.{next, levelOf, outputOf, clipOf, after, outputsOf, clipsOf, Run, runOf, bitOf, clipped}
+use Rattle.headroom.specs.declared.peak.Way.{Way}
+use Rattle.headroom.specs.Meaning.{passes}
+use Rattle.headroom.specs.Past.{endOf, past-clips, clips-past}
 
 -- the last of a list, d where there is none
 unfoldable pub lastOf : {A : Type 0} → A → List A → A

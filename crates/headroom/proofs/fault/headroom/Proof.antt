@@ -1,9 +1,9 @@
 -- `fault::headroom` meets its contract: the code makes the tests of `headFault`. Assumes nothing.
 use borrow.Author.Needs.{needs}
 use Rattle.laws.specs.Rules.{tests}
-use Rattle.filter.specs.Meaning.{headFault}
-use Rattle.filter.proofs.fault.headroom.Statement.{statement}
-use Rattle.filter.proofs.fault.headroom.Tie as tie
+use Rattle.headroom.specs.Meaning.{headFault}
+use Rattle.headroom.proofs.fault.headroom.Statement.{statement}
+use Rattle.headroom.proofs.fault.headroom.Tie as tie
 
 returns : tie.Need-returns
 unfolding headFault

@@ -1,13 +1,24 @@
--- The verdict as the code has it: the filter's level on a line that starts with the driving samples. Assumes nothing.
+-- What is known where nothing is refused, and the verdict as the code has it: the filter's level on a line that starts with the driving samples.
+-- Assumes nothing.
 use mathlib.Core.Path.{_≡_}
 use mathlib.Core.Bool.{Bool, true, false}
 use mathlib.Core.List.{List}
+use Prim.Native.Nat.{ℕ, _≤_}
 use lib.IntN.{ℤ}
 use lib.ListN.{length, take}
-use Rattle.filter.specs.declared.peak.Way.{Way}
-use Rattle.filter.specs.declared.peak.Way.the-variants.{High, Low}
-use Rattle.filter.specs.Meaning.{levelOf, driving, passes, clipsWay, verdictOf, witnessOf}
+use Rattle.filter.specs.Meaning.{mostTaps, levelOf, tapsFault}
+use Rattle.filter.specs.Refuse.{taps-few, same-then}
 use Rattle.filter.specs.Sum.{sum-take}
+use Rattle.headroom.specs.declared.peak.Way.{Way}
+use Rattle.headroom.specs.declared.peak.Way.the-variants.{High, Low}
+use Rattle.headroom.specs.Meaning.{driving, passes, clipsWay, verdictOf, witnessOf, headFault}
+
+-- where nothing is refused
+pub head-fit : (n places : ℕ) → headFault n places ≡ 0 → (n ≡ places) × (n ≤ mostTaps)
+unfolding headFault
+head-fit n places h =
+    let a = same-then n places (tapsFault n) h in
+    (a .0, taps-few n (a .1))
 
 -- the test of the level is the test of the meaning
 pub test-way : (way : Way) (taps line : List ℤ) (y : ℤ) (t : Bool) → y ≡ levelOf taps line → take (length taps) line ≡ driving way taps → passes way y ≡ t → clipsWay way taps ≡ t

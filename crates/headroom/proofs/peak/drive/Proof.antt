@@ -11,9 +11,10 @@ use borrow.Author.Needs.{needs}
 use mir.Syntax.{w16}
 use Rattle.laws.specs.Lists.{map-step}
 use Rattle.laws.specs.Signed.{ok-back}
-use Rattle.filter.specs.Meaning.{mostTaps, drivenOf}
-use Rattle.filter.proofs.peak.drive.Statement.{statement}
-use Rattle.filter.proofs.peak.drive.Tie as tie
+use Rattle.filter.specs.Meaning.{mostTaps}
+use Rattle.headroom.specs.Meaning.{drivenOf}
+use Rattle.headroom.proofs.peak.drive.Statement.{statement}
+use Rattle.headroom.proofs.peak.drive.Tie as tie
 
 abbrev Inv-loop : tie.InvT-loop
 Inv-loop way taps line₀ i₀ line i = (i ≤ length taps) × ((length line ≡ mostTaps) × (take i line ≡ map (drivenOf way) (take i taps)))

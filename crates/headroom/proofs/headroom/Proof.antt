@@ -7,10 +7,11 @@ use lib.ListN.{length}
 use lib.IntN.{ℤ}
 use borrow.Author.Needs.{needs}
 use Rattle.format.specs.declared.UnsignedAnswer.the-variants.{Done as DoneU}
-use Rattle.filter.specs.Refuse.{head-fit, refuses, goes-on}
-use Rattle.filter.specs.Promise.{headed, headroomOf}
-use Rattle.filter.proofs.headroom.Statement.{statement}
-use Rattle.filter.proofs.headroom.Tie as tie
+use Rattle.filter.specs.Refuse.{refuses, goes-on}
+use Rattle.headroom.specs.Head.{head-fit}
+use Rattle.headroom.specs.Promise.{headed, headroomOf}
+use Rattle.headroom.proofs.headroom.Statement.{statement}
+use Rattle.headroom.proofs.headroom.Tie as tie
 
 headroom-requires : tie.Need-headroom-requires
 headroom-requires c κs = search needs

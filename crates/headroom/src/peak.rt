@@ -3,9 +3,10 @@ ghost use mathlib.Core.Path.{_≡_};
 ghost use mathlib.Core.List.{map};
 ghost use Prim.Native.Nat.{_≤_};
 ghost use lib.ListN.{length, take};
-ghost use Rattle.filter.specs.Meaning.{mostTaps, bySign, drivenOf, verdictOf, witnessOf};
-use super::TAPS;
-use super::sum;
+ghost use Rattle.filter.specs.Meaning.{mostTaps};
+ghost use Rattle.headroom.specs.Meaning.{bySign, drivenOf, verdictOf, witnessOf};
+use filter::TAPS;
+use filter::sum;
 
 // The two ways to clip.
 enum Way {

@@ -6,11 +6,11 @@ use mir.Syntax.{w16}
 use mir.Facts.{toZ-ofZ}
 use Rattle.laws.specs.Signed.{ok-back}
 use Rattle.format.specs.Meaning.{lowest, highest}
-use Rattle.filter.specs.declared.peak.Way.{Way}
-use Rattle.filter.specs.declared.peak.Way.the-variants.{High, Low}
-use Rattle.filter.specs.Meaning.{bySign, drivenOf}
-use Rattle.filter.proofs.peak.driven.Statement.{statement}
-use Rattle.filter.proofs.peak.driven.Tie as tie
+use Rattle.headroom.specs.declared.peak.Way.{Way}
+use Rattle.headroom.specs.declared.peak.Way.the-variants.{High, Low}
+use Rattle.headroom.specs.Meaning.{bySign, drivenOf}
+use Rattle.headroom.proofs.peak.driven.Statement.{statement}
+use Rattle.headroom.proofs.peak.driven.Tie as tie
 
 enum-told : tie.Need-enum-told
 enum-told c = search needs

@@ -10,8 +10,8 @@ use lib.Seq.{take-suc, take-suc-set, take-all}
 use borrow.Author.Needs.{needs}
 use mir.Syntax.{w16}
 use Rattle.laws.specs.Signed.{ok-back}
-use Rattle.filter.proofs.peak.keep.Statement.{statement}
-use Rattle.filter.proofs.peak.keep.Tie as tie
+use Rattle.headroom.proofs.peak.keep.Statement.{statement}
+use Rattle.headroom.proofs.peak.keep.Tie as tie
 
 abbrev Inv-loop : tie.InvT-loop
 Inv-loop line witness₀ i₀ witness i = (i ≤ length witness₀) × ((length witness ≡ length witness₀) × (take i witness ≡ take i line))

@@ -6,9 +6,9 @@ use lib.IntN.{pos}
 use lib.Signed.{ltZ}
 use mir.Syntax.{w16}
 use mir.Facts.{toZ-ofZ}
-use Rattle.filter.specs.Meaning.{bySign}
-use Rattle.filter.proofs.peak.by_sign.Statement.{statement}
-use Rattle.filter.proofs.peak.by_sign.Tie as tie
+use Rattle.headroom.specs.Meaning.{bySign}
+use Rattle.headroom.proofs.peak.by_sign.Statement.{statement}
+use Rattle.headroom.proofs.peak.by_sign.Tie as tie
 
 -- the tests' outcomes, of the tap itself
 above : (c : tie.Then1) → ltZ (pos 0) (c .before .args .tap) ≡ true

@@ -12,11 +12,12 @@ use Rattle.laws.specs.Order.{+ℤ-mono, mul-out, *ℤ-mono-pos}
 use Rattle.laws.specs.Signed.{signed}
 use Rattle.laws.specs.Tests.{ltZ-true, lt-ltZ}
 use Rattle.format.specs.Meaning.{lowest, highest}
-use Rattle.filter.specs.declared.peak.Way.{Way}
-use Rattle.filter.specs.declared.peak.Way.the-variants.{High, Low}
-use Rattle.filter.specs.Meaning.{sumOf, rounded, levelOf, bySign, drivenOf, driving, passes, clipsWay}
+use Rattle.filter.specs.Meaning.{sumOf, rounded, levelOf}
 use Rattle.filter.specs.Range.{Sample, zero-sample, Samples, more}
 use Rattle.filter.specs.Rounding.{rounded-mono}
+use Rattle.headroom.specs.declared.peak.Way.{Way}
+use Rattle.headroom.specs.declared.peak.Way.the-variants.{High, Low}
+use Rattle.headroom.specs.Meaning.{bySign, drivenOf, driving, passes, clipsWay}
 
 pub data Within : Way → ℤ → ℤ → Type 0 where
   upward : {a b : ℤ} → a ≤ℤ b → Within High a b

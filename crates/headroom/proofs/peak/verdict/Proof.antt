@@ -9,11 +9,11 @@ use mir.Syntax.{w64}
 use mir.Val.{toZ, ofZ}
 use Rattle.laws.specs.Signed.{ok-back}
 use Rattle.format.specs.Meaning.{lowest, highest}
-use Rattle.filter.specs.declared.peak.Way.the-variants.{High, Low}
-use Rattle.filter.specs.Meaning.{passes, clipsWay}
-use Rattle.filter.specs.Head.{test-way, verdict-high, verdict-low, verdict-none}
-use Rattle.filter.proofs.peak.verdict.Statement.{statement}
-use Rattle.filter.proofs.peak.verdict.Tie as tie
+use Rattle.headroom.specs.declared.peak.Way.the-variants.{High, Low}
+use Rattle.headroom.specs.Meaning.{passes, clipsWay}
+use Rattle.headroom.specs.Head.{test-way, verdict-high, verdict-low, verdict-none}
+use Rattle.headroom.proofs.peak.verdict.Statement.{statement}
+use Rattle.headroom.proofs.peak.verdict.Tie as tie
 
 drive-requires : tie.Need-drive-requires
 drive-requires c κs = search needs

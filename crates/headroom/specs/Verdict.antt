@@ -7,15 +7,17 @@ use native.Mathlib.Omega.{arith}
 use lib.IntN.{ℤ}
 use lib.ListN.{length, take, length-map, length-reverse}
 use lib.Seq.{take-take, take-at}
-use Rattle.filter.specs.declared.peak.Way.{Way}
-use Rattle.filter.specs.declared.peak.Way.the-variants.{High, Low}
-use Rattle.filter.specs.Ends.{Ends, ends-past, past-ends}
-use Rattle.filter.specs.Meaning.{mostTaps, next, sumOf, levelOf, clipOf, after, clipsOf, runOf, bitOf, clipped, drivenOf, driving, clipsWay, verdictOf, witnessOf}
-use Rattle.filter.specs.Range.{Samples, none, more, driven-sample, samples-after, samples-next, zero-inside, inside-keeps}
+use Rattle.filter.specs.Meaning.{mostTaps, next, sumOf, levelOf, clipOf, after, clipsOf, runOf, bitOf, clipped}
+use Rattle.filter.specs.Range.{Samples, none, more, samples-after, samples-next}
 use Rattle.filter.specs.Rounding.{rounded-zero}
 use Rattle.filter.specs.Run.{after-is}
 use Rattle.filter.specs.Sum.{sum-take}
-use Rattle.filter.specs.Drive.{never-passes}
+use Rattle.headroom.specs.declared.peak.Way.{Way}
+use Rattle.headroom.specs.declared.peak.Way.the-variants.{High, Low}
+use Rattle.headroom.specs.Ends.{Ends, ends-past, past-ends}
+use Rattle.headroom.specs.Meaning.{drivenOf, driving, clipsWay, verdictOf, witnessOf}
+use Rattle.headroom.specs.Past.{driven-sample, zero-inside, inside-keeps}
+use Rattle.headroom.specs.Drive.{never-passes}
 
 pub driving-samples : (way : Way) (taps : List ℤ) → Samples (driving way taps)
 driving-samples way [] = none

@@ -1,0 +1,9 @@
+pub mod Cases
+pub mod Drive
+pub mod Ends
+pub mod Head
+pub mod Meaning
+pub mod Past
+pub mod Promise
+pub mod Theorems
+pub mod Verdict
