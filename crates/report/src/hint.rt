@@ -10,6 +10,12 @@ pub(crate) fn meaning(inner: u32) {
         13 => out::text(b"a byte is no digit"),
         14 => out::text(b"an underscore has no place there"),
         15 => out::text(b"there is more than one point"),
+        _ => of_exponent(inner),
+    }
+}
+
+fn of_exponent(inner: u32) {
+    match inner {
         16 => out::text(b"a byte of the exponent is no digit"),
         17 => out::text(b"the exponent has no digits"),
         18 => out::text(b"there is more than one exponent"),

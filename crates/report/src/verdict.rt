@@ -26,15 +26,22 @@ fn judged(taps: &[i16], witness: &mut [i16]) {
     else {
         return;
     };
-    if verdict == 0 {
-        out::text(b"verdict 0: no samples clip\n");
-        return;
+    in_words(verdict);
+    if verdict != 0 {
+        driven(taps, witness);
     }
-    if verdict == 1 {
-        out::text(b"verdict 1: some samples clip high\n");
-    } else {
-        out::text(b"verdict 2: no samples clip high, some clip low\n");
+}
+
+fn in_words(verdict: u64) {
+    match verdict {
+        0 => out::text(b"verdict 0: no samples clip\n"),
+        1 => out::text(b"verdict 1: some samples clip high\n"),
+        _ => out::text(b"verdict 2: no samples clip high, some clip low\n"),
     }
+}
+
+// The samples, and their sum.
+fn driven(taps: &[i16], witness: &[i16]) {
     taps::samples(witness);
     out::text(b"sum: ");
     out::value(sum(taps, witness), SUM_WIDTH, SUM_FRAC);
