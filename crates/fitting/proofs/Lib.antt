@@ -1,1 +1,2 @@
+-- What the proofs of more than one function use, those of `fitting_list` too.
 pub mod Answers

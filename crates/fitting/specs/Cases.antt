@@ -11,9 +11,10 @@ use Rattle.format.specs.Meaning.{isWidth, faultOf, lowest, highest, fits, settl
 use Rattle.format.specs.Meaning.{unless as unlessFault}
 use Rattle.grammar.specs.Meaning.{digitOf, isMark, exponentFrom, digitsFrom, prefixMark, prefixRadix, dropUnderscores, literalMinus, literalReading, natFrom, num, den, rawOf, outcomeOf, literalOf}
 use Rattle.filter.specs.Promise.{unless}
+use Rattle.value_lines.specs.Meaning.{onto, linesOf, isValue, valuesFrom, valuesOf, answerOf, rawAt, numberAt}
 use Rattle.fitting.specs.declared.FileAnswer.{FileAnswer}
 use Rattle.fitting.specs.declared.FileAnswer.the-variants.{Done, Refused, Line}
-use Rattle.fitting.specs.Meaning.{onto, linesOf, isValue, valuesFrom, valuesOf, answerOf, rawAt, numberAt, judge, accepted, roomFault, fileFault}
+use Rattle.fitting.specs.Meaning.{judge, accepted, roomFault, fileFault}
 use Rattle.fitting.specs.Promise.{fitted, roomyOf, fittedOf}
 
 -- a list and taps of some places, all 7
@@ -31,16 +32,6 @@ Gives file n answer lines raws answers taps =
 -- the same where nothing is changed
 abbrev Untouched : String → ℕ → ℕ → Type 0
 Untouched file n number = Gives file n (Refused number) (sevens n) (signed-sevens n) (sevens n) (signed-sevens n)
-
--- how lines are cut
-pub line-cases :
-    (linesOf (bytes "") ≡ [])
-    × ((linesOf (bytes "a") ≡ bytes "a" ∷ [])
-    × ((linesOf (bytes "a\n") ≡ bytes "a" ∷ [])
-    × ((linesOf (bytes "a\n\nb") ≡ bytes "a" ∷ [] ∷ bytes "b" ∷ [])
-    × (linesOf (bytes "\n") ≡ [] ∷ []))))
-unfolding linesOf onto bytes
-line-cases = (refl, (refl, (refl, (refl, refl))))
 
 -- two values with a comment and an empty line; the last line has no LF; the third place stays
 pub taps-case : Gives "# taps\n0.5\n\n-1" 3 (Done 2) (2 ∷ 4 ∷ 7 ∷ []) (pos 16384 ∷ negsuc 32767 ∷ pos 7 ∷ []) (0 ∷ 0 ∷ 7 ∷ []) (pos 16384 ∷ negsuc 32767 ∷ pos 7 ∷ [])

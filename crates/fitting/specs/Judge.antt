@@ -9,9 +9,10 @@ use lib.Dec.{eqb}
 use lib.ListN.{length, take, drop, getD, length-take, drop-of-length-le}
 use lib.Seq.{drop-cons, getD-take}
 use borrow.Author.Tests.{eq-eqb, ne-eqb}
+use Rattle.value_lines.specs.Meaning.{ValueLine, lineNumber, numberAt}
 use Rattle.fitting.specs.declared.FileAnswer.{FileAnswer}
 use Rattle.fitting.specs.declared.FileAnswer.the-variants.{Done, Line}
-use Rattle.fitting.specs.Meaning.{ValueLine, lineNumber, numberAt, judge}
+use Rattle.fitting.specs.Meaning.{judge}
 
 unfoldable pub judgedOf : ℕ → List ℕ → List ℕ → FileAnswer
 judgedOf n lines [] = Done n

@@ -1,13 +1,7 @@
 pub mod Cases
-pub mod Filled
-pub mod Held
 pub mod Judge
-pub mod Lines
-pub mod Literal
 pub mod Meaning
 pub mod Promise
 pub mod Read
-pub mod Records
 pub mod Room
-pub mod Store
 pub mod Theorems

@@ -7,9 +7,10 @@ use Prim.Native.Nat.{ℕ}
 use lib.IntN.{ℤ}
 use lib.ListN.{length}
 use Rattle.filter.specs.Promise.{unless}
+use Rattle.value_lines.specs.Meaning.{ValueLine, valuesOf, lineNumber, rawAt, numberAt, over}
 use Rattle.fitting.specs.declared.FileAnswer.{FileAnswer}
 use Rattle.fitting.specs.declared.FileAnswer.the-variants.{Refused}
-use Rattle.fitting.specs.Meaning.{ValueLine, valuesOf, lineNumber, rawAt, numberAt, verdictOf, accepted, over, fileFault}
+use Rattle.fitting.specs.Meaning.{verdictOf, accepted, fileFault}
 
 -- the answer, and the four lent slices as the call leaves them
 pub record Fitted : Type 0 where

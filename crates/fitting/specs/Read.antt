@@ -11,13 +11,14 @@ use lib.ListN.{length, take, drop, length-map, length-append}
 use lib.Seq.{take-at}
 use Rattle.filter.specs.Promise.{unless}
 use Rattle.filter.specs.Refuse.{which}
+use Rattle.value_lines.specs.Meaning.{ValueLine, valuesOf, lineNumber, rawAt, numberAt, over}
+use Rattle.value_lines.specs.Store.{Stored}
 use Rattle.fitting.specs.declared.FileAnswer.{FileAnswer}
 use Rattle.fitting.specs.declared.FileAnswer.the-variants.{Done, Refused, Line}
-use Rattle.fitting.specs.Meaning.{ValueLine, valuesOf, lineNumber, rawAt, numberAt, judge, accepted, over, fileFault}
+use Rattle.fitting.specs.Meaning.{judge, accepted, fileFault}
 use Rattle.fitting.specs.Promise.{fitted, listed, roomyOf}
 use Rattle.fitting.specs.Room.{checkedOf, Room, fault-none}
 use Rattle.fitting.specs.Judge.{judgedOf, judged-is}
-use Rattle.fitting.specs.Store.{Stored}
 
 -- no answer that is done
 abbrev pub NotDone : FileAnswer → Type 0

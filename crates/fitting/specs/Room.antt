@@ -9,9 +9,10 @@ use lib.ListN.{length}
 use borrow.Author.Tests.{eq-eqb, ne-eqb, le-leb, lt-leb, eqb-true, leb-true}
 use Rattle.filter.specs.Meaning.{mostTaps}
 use Rattle.filter.specs.Promise.{unless}
+use Rattle.value_lines.specs.Meaning.{fileLimit, valuesOf}
 use Rattle.fitting.specs.declared.FileAnswer.{FileAnswer}
 use Rattle.fitting.specs.declared.FileAnswer.the-variants.{Done, Refused}
-use Rattle.fitting.specs.Meaning.{fileLimit, valuesOf, roomFault, fileFault}
+use Rattle.fitting.specs.Meaning.{roomFault, fileFault}
 
 -- the number of values, or the refusal
 unfoldable pub checkedOf : List ℕ → ℕ → ℕ → ℕ → ℕ → FileAnswer

@@ -1,12 +1,9 @@
 // What is refused before anything is written: 4, 41, 5, 40 in this order.
 ghost use mathlib.Core.Path.{_≡_};
-ghost use Prim.Native.Nat.{_≤_};
-ghost use lib.ListN.{length};
-ghost use Rattle.fitting.specs.Meaning.{fileLimit, valuesOf, roomFault, fileFault};
+ghost use Rattle.fitting.specs.Meaning.{roomFault};
 ghost use Rattle.fitting.specs.Room.{checkedOf};
 use crate::FILE_LIMIT;
 use crate::FileAnswer;
-use crate::line;
 use filter::TAPS;
 
 const TOO_LONG: u32 = 4;
@@ -16,23 +13,6 @@ const TOO_SMALL: u32 = 5;
 const NO_VALUE: u32 = 40;
 
 const TOO_MANY: u32 = 41;
-
-// How many value lines there are, refused ones too.
-fn count(file: &[u8]) -> usize
-    requires { ⌜ length (now file) ≤ fileLimit ⌝ }
-    ensures { λ r. ⌜ r ≡ length (valuesOf (now (file .entry))) ⌝ }
-{
-    let mut n: usize = 0;
-    let mut at: usize = 0;
-    while at < file.len() {
-        let line = line::line_at(file, at);
-        if line::is_value(line) {
-            n += 1;
-        }
-        at += line.len() + 1;
-    }
-    n
-}
 
 // 5: lists of unequal length, or fewer places than values; then 40: no value; 0 for neither.
 fn room(values: usize, lines: usize, raws: usize, answers: usize, taps: usize) -> u32
@@ -57,19 +37,13 @@ fn room(values: usize, lines: usize, raws: usize, answers: usize, taps: usize) -
 }
 
 // The number of values, or the refusal.
-pub(crate) fn check(
-    file: &[u8],
-    lines: usize,
-    raws: usize,
-    answers: usize,
-    taps: usize,
-) -> FileAnswer
+pub fn check(file: &[u8], lines: usize, raws: usize, answers: usize, taps: usize) -> FileAnswer
     ensures { λ r. ⌜ r ≡ checkedOf (now (file .entry)) lines raws answers taps ⌝ }
 {
     if FILE_LIMIT < file.len() {
         return FileAnswer::Refused(TOO_LONG);
     }
-    let values = count(file);
+    let values = value_lines::count(file);
     if TAPS < values {
         return FileAnswer::Refused(TOO_MANY);
     }

@@ -2,12 +2,12 @@
 ghost use mathlib.Core.Path.{_≡_};
 ghost use Prim.Native.Nat.{_≤_};
 ghost use lib.ListN.{length, take};
-ghost use Rattle.fitting.specs.Meaning.{over};
+ghost use Rattle.value_lines.specs.Meaning.{over};
 ghost use Rattle.fitting.specs.Judge.{judgedOf};
 use crate::FileAnswer;
 
 // The first of the values that was refused.
-pub(crate) fn judge(lines: &[u32], answers: &[u32], values: u32) -> FileAnswer
+pub fn judge(lines: &[u32], answers: &[u32], values: u32) -> FileAnswer
     requires { ⌜ values ≤ length (now lines) ⌝ }
     requires { ⌜ values ≤ length (now answers) ⌝ }
     ensures { λ r. ⌜ r ≡ judgedOf values (take values (now (lines .entry))) (take values (now (answers .entry))) ⌝ }
@@ -28,7 +28,7 @@ pub(crate) fn judge(lines: &[u32], answers: &[u32], values: u32) -> FileAnswer
 }
 
 // The raws into the first taps.
-pub(crate) fn keep(raws: &[i16], taps: &mut [i16], values: u32)
+pub fn keep(raws: &[i16], taps: &mut [i16], values: u32)
     requires { ⌜ values ≤ length (now raws) ⌝ }
     requires { ⌜ values ≤ length (now taps) ⌝ }
     ensures { λ _. ⌜ now (taps .exit) ≡ over (take values (now (raws .entry))) (now (taps .entry)) ⌝ }

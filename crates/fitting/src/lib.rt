@@ -1,11 +1,8 @@
 // The fitting file (01, module 9): its value lines as a list of line number, raw and answer, and the taps if none is refused.
 ghost use Rattle.fitting.specs.Promise.{Reads};
 
-mod check;
-mod judge;
-mod line;
-pub mod list;
-mod store;
+pub mod check;
+pub mod judge;
 
 // The longest file.
 pub const FILE_LIMIT: usize = 16384;
@@ -31,7 +28,7 @@ pub fn read(
     let FileAnswer::Done { values } = checked else {
         return checked;
     };
-    store::store(file, lines, raws, answers);
+    value_lines::store(file, lines, raws, answers);
     let judged = judge::judge(lines, answers, values);
     let FileAnswer::Done { values: n } = judged else {
         return judged;

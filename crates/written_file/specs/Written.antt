@@ -24,12 +24,13 @@ use Rattle.decimal.specs.Theorems.{text-length, write-read}
 use Rattle.filter.specs.Meaning.{mostTaps}
 use Rattle.filter.specs.Range.{sample-sfits}
 use Rattle.filter.specs.Promise.{unless}
+use Rattle.value_lines.specs.Meaning.{fileLimit, lineFeed, hash, isValue, ValueLine, valueLine, valuesFrom, valuesOf, answerOf, lineNumber, rawAt, numberAt, over, linesOf}
+use Rattle.value_lines.specs.Lines.{value-more}
+use Rattle.value_lines.specs.Theorems.{NoFeeds, none, more, joined, lines-joined}
 use Rattle.fitting.specs.declared.FileAnswer.the-variants.{Done}
-use Rattle.fitting.specs.Meaning.{fileLimit, lineFeed, hash, isValue, ValueLine, valueLine, valuesFrom, valuesOf, answerOf, lineNumber, rawAt, numberAt, judge, accepted, over, roomFault, fileFault, linesOf}
+use Rattle.fitting.specs.Meaning.{judge, accepted, roomFault, fileFault}
 use Rattle.fitting.specs.Promise.{fitted, roomyOf, fittedOf}
-use Rattle.fitting.specs.Lines.{value-more}
 use Rattle.fitting.specs.Read.{judge-done}
-use Rattle.fitting.specs.Theorems.{NoFeeds, none, more, joined, lines-joined}
 
 -- ---- every byte is from `-`, 45, to `9`, 57
 pub data Bytes : List ℕ → Type 0 where

@@ -3,7 +3,7 @@ use mathlib.Core.Path.{ap}
 use native.Mathlib.Omega.{arith}
 use lib.ListN.{length}
 use borrow.Author.Needs.{needs}
-use Rattle.fitting.specs.Meaning.{lineNumber, rawAt, numberAt, valuesOf}
+use Rattle.value_lines.specs.Meaning.{lineNumber, rawAt, numberAt, valuesOf}
 use Rattle.fitting.specs.Read.{over-long, refused-first, checked-done, refused-line, done-count, all-done}
 use Rattle.fitting.proofs.Answers.{not-done}
 use Rattle.fitting.proofs.read.Statement.{statement}

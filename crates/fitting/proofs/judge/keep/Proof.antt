@@ -8,7 +8,7 @@ use lib.ListN.{length, take, getD, length-take}
 use lib.Seq.{getD-take}
 use mir.Syntax.{w16}
 use Rattle.laws.specs.Signed.{ok-back}
-use Rattle.fitting.specs.Held.{Held, held-none, held-more, held-all}
+use Rattle.value_lines.specs.Held.{Held, held-none, held-more, held-all}
 use Rattle.fitting.proofs.judge.keep.Statement.{statement}
 use Rattle.fitting.proofs.judge.keep.Tie as tie
 

@@ -1,0 +1,4 @@
+pub mod Filled
+pub mod Meaning
+pub mod Promise
+pub mod Records
