@@ -7,7 +7,7 @@ use Rattle.format.specs.declared.Manner.{Manner}
 use Rattle.format.specs.Meaning.{Sign, Outcome, faultOf, unless, settle}
 use Rattle.exact.specs.Meaning.{orElse}
 use Rattle.arith.specs.Meaning.{divisorFault}
-use Rattle.whole.specs.Meaning.{bySize, floorTo}
+use Rattle.units.specs.Meaning.{bySize, floorTo}
 
 -- "Returns the absolute value"
 abbrev pub absOf : Manner → Sign → ℕ → ℕ → ℤ → Outcome

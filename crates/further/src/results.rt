@@ -9,7 +9,6 @@ ghost use Rattle.exact.specs.Meaning.{numberOf, exactOf};
 ghost use Rattle.further.specs.Meaning.{signOf, remEuclid, quotEuclid};
 use exact::Exact;
 use exact::Number;
-use whole::units;
 use wide::Wide;
 
 pub(crate) fn abs(x: Number) -> Exact

@@ -2,7 +2,7 @@
 use mathlib.Core.Path.{refl}
 use native.Mathlib.Omega.{arith}
 use Rattle.exact.specs.Signs.{floor-below}
-use Rattle.whole.specs.Units.{above-zero, above-fits}
+use Rattle.units.specs.Units.{above-zero, above-fits}
 use borrow.Author.Needs.{needs}
 use Rattle.further.proofs.results.above.Statement.{statement}
 use Rattle.further.proofs.results.above.Tie as tie

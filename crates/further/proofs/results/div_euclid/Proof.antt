@@ -1,7 +1,7 @@
 -- `further::results::div_euclid` meets its contract: the floor by the magnitude, with the sign turned by the divisor's, in steps. Assumes nothing.
 use Prim.Native.Nat.{_^_}
 use Rattle.exact.specs.Meaning.{numberOf}
-use Rattle.whole.specs.Units.{in-steps}
+use Rattle.units.specs.Units.{in-steps}
 use Rattle.further.specs.Results.{turned}
 use borrow.Author.Needs.{needs}
 use Rattle.further.proofs.results.div_euclid.Statement.{statement}

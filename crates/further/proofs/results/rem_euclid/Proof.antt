@@ -4,7 +4,7 @@ use Prim.Native.Nat.{ℕ}
 use lib.IntN.{_-ℤ_}
 use Rattle.exact.specs.Meaning.{numberOf}
 use Rattle.exact.specs.Signs.{abs-sign}
-use Rattle.whole.specs.Meaning.{floorTo}
+use Rattle.units.specs.Meaning.{floorTo}
 use borrow.Author.Needs.{needs}
 use Rattle.further.proofs.results.rem_euclid.Statement.{statement}
 use Rattle.further.proofs.results.rem_euclid.Tie as tie

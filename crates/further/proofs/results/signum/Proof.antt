@@ -1,6 +1,6 @@
 -- `further::results::signum` meets its contract: the magnitude held to one, with the sign, in steps. Assumes nothing.
 use Prim.Native.Nat.{ℕ, _^_, min}
-use Rattle.whole.specs.Units.{by-size, in-steps}
+use Rattle.units.specs.Units.{by-size, in-steps}
 use Rattle.further.specs.Results.{sign-none}
 use borrow.Author.Needs.{needs}
 use Rattle.further.proofs.results.signum.Statement.{statement}
