@@ -12,7 +12,7 @@ use Rattle.laws.specs.Floor.{floor, floor-out, shrZ-add}
 use Rattle.laws.specs.Signed.{signed as kit}
 use Rattle.units.specs.Meaning.{bySize, floorTo}
 use Rattle.units.specs.Theorems.{floor-below}
-use Rattle.further.specs.Meaning.{signOf, remEuclid, quotEuclid}
+use Rattle.results.specs.Meaning.{signOf, remEuclid, quotEuclid}
 
 -- ---- a = q b + r with 0 <= r < |b|
 put-back : (a p : ℤ) → p +ℤ (a -ℤ p) ≡ a

@@ -1,11 +1,11 @@
--- `further::results::div_euclid` meets its contract: the floor by the magnitude, with the sign turned by the divisor's, in steps. Assumes nothing.
+-- `results::div_euclid` meets its contract: the floor by the magnitude, with the sign turned by the divisor's, in steps. Assumes nothing.
 use Prim.Native.Nat.{_^_}
 use Rattle.exact.specs.Meaning.{numberOf}
 use Rattle.units.specs.Units.{in-steps}
-use Rattle.further.specs.Results.{turned}
+use Rattle.results.specs.Results.{turned}
 use borrow.Author.Needs.{needs}
-use Rattle.further.proofs.results.div_euclid.Statement.{statement}
-use Rattle.further.proofs.results.div_euclid.Tie as tie
+use Rattle.results.proofs.div_euclid.Statement.{statement}
+use Rattle.results.proofs.div_euclid.Tie as tie
 
 floor-requires : tie.Need-floor-requires
 floor-requires c κs = search needs

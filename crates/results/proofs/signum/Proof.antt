@@ -1,10 +1,10 @@
--- `further::results::signum` meets its contract: the magnitude held to one, with the sign, in steps. Assumes nothing.
+-- `results::signum` meets its contract: the magnitude held to one, with the sign, in steps. Assumes nothing.
 use Prim.Native.Nat.{ℕ, _^_, min}
 use Rattle.units.specs.Units.{by-size, in-steps}
-use Rattle.further.specs.Results.{sign-none}
+use Rattle.results.specs.Results.{sign-none}
 use borrow.Author.Needs.{needs}
-use Rattle.further.proofs.results.signum.Statement.{statement}
-use Rattle.further.proofs.results.signum.Tie as tie
+use Rattle.results.proofs.signum.Statement.{statement}
+use Rattle.results.proofs.signum.Tie as tie
 
 at-most-one-requires : tie.Need-at-most-one-requires
 at-most-one-requires c κs = search needs

@@ -1,10 +1,10 @@
--- `further::results::abs` meets its contract: the magnitude, not negative. Assumes nothing.
+-- `results::abs` meets its contract: the magnitude, not negative. Assumes nothing.
 use mathlib.Core.Path.{_∙_, sym, ap}
 use lib.IntN.{pos}
 use Rattle.exact.specs.Signs.{abs-sign}
 use borrow.Author.Needs.{needs}
-use Rattle.further.proofs.results.abs.Statement.{statement}
-use Rattle.further.proofs.results.abs.Tie as tie
+use Rattle.results.proofs.abs.Statement.{statement}
+use Rattle.results.proofs.abs.Tie as tie
 
 of-unsigned-requires : tie.Need-of-unsigned-requires
 of-unsigned-requires c κs = search needs

@@ -1,4 +1,4 @@
-// Exact results, once for both signs.
+// More exact results, once for both signs: abs, signum, Euclidean division, mul_add, dist, mean.
 ghost use mathlib.Core.Path.{_≡_};
 ghost use mathlib.Core.Bool.{true};
 ghost use Prim.Native.Nat.{_+_, _*_, _^_, _≤_, _<_, min};
@@ -6,19 +6,19 @@ ghost use lib.IntN.{pos, natAbs, _+ℤ_, _-ℤ_, _*ℤ_};
 ghost use Rattle.laws.specs.Floor.{floor as floorIn};
 ghost use Rattle.format.specs.Meaning.{withSign};
 ghost use Rattle.exact.specs.Meaning.{numberOf, exactOf};
-ghost use Rattle.further.specs.Meaning.{signOf, remEuclid, quotEuclid};
+ghost use Rattle.results.specs.Meaning.{signOf, remEuclid, quotEuclid};
 use exact::Exact;
 use exact::Number;
 use wide::Wide;
 
-pub(crate) fn abs(x: Number) -> Exact
+pub fn abs(x: Number) -> Exact
     ensures { λ r. ⌜ exactOf r ≡ pos (natAbs (numberOf x)) ⌝ }
 {
     exact::of_number(exact::of_unsigned(x.size))
 }
 
 // The sign of x, in units of 2^frac.
-pub(crate) fn signum(x: Number, frac: u32) -> Exact
+pub fn signum(x: Number, frac: u32) -> Exact
     requires { ⌜ frac ≤ 64 ⌝ }
     ensures { λ r. ⌜ exactOf r ≡ signOf (numberOf x) *ℤ pos (2 ^ frac) ⌝ }
 {
@@ -38,7 +38,7 @@ fn at_most_one(n: u64) -> u64
     1
 }
 
-pub(crate) fn rem_euclid(x: Number, y: Number) -> Exact
+pub fn rem_euclid(x: Number, y: Number) -> Exact
     requires { ⌜ 0 < y .size ⌝ }
     ensures { λ r. ⌜ exactOf r ≡ remEuclid (numberOf x) (numberOf y) ⌝ }
 {
@@ -46,7 +46,7 @@ pub(crate) fn rem_euclid(x: Number, y: Number) -> Exact
 }
 
 // The floor by |y|, with the sign turned where y is negative, in units of 2^frac.
-pub(crate) fn div_euclid(x: Number, y: Number, frac: u32) -> Exact
+pub fn div_euclid(x: Number, y: Number, frac: u32) -> Exact
     requires { ⌜ (0 < y .size) × (frac ≤ 64) ⌝ }
     ensures { λ r. ⌜ exactOf r ≡ quotEuclid (numberOf x) (numberOf y) *ℤ pos (2 ^ frac) ⌝ }
 {
@@ -86,7 +86,7 @@ fn above(size: u64, m: u64) -> u64
 }
 
 // The floor of the product, of two words, and a word. The product of two words leaves room for a word.
-pub(crate) fn mul_add(x: Number, y: Number, z: Number, frac: u32) -> Exact
+pub fn mul_add(x: Number, y: Number, z: Number, frac: u32) -> Exact
     ensures { λ r. ⌜ exactOf r ≡ floorIn (numberOf x *ℤ numberOf y) (2 ^ frac) +ℤ numberOf z ⌝ }
 {
     let p = wide::mul(x.size, y.size);
@@ -129,7 +129,7 @@ fn add(x: Exact, neg: bool, size: u64) -> Exact
 }
 
 // |x - y|
-pub(crate) fn dist(x: Number, y: Number) -> Exact
+pub fn dist(x: Number, y: Number) -> Exact
     ensures { λ r. ⌜ exactOf r ≡ pos (natAbs (numberOf x -ℤ numberOf y)) ⌝ }
 {
     let d = exact::sum(x, exact::negated(y));
@@ -141,7 +141,7 @@ pub(crate) fn dist(x: Number, y: Number) -> Exact
 }
 
 // Half of x + y, rounded toward minus infinity.
-pub(crate) fn mean(x: Number, y: Number) -> Exact
+pub fn mean(x: Number, y: Number) -> Exact
     ensures { λ r. ⌜ exactOf r ≡ floorIn (numberOf x +ℤ numberOf y) 2 ⌝ }
 {
     let s = exact::sum(x, y);

@@ -1,4 +1,4 @@
--- `further::results::rem_euclid` meets its contract: what is left above a multiple of the magnitude. Assumes nothing.
+-- `results::rem_euclid` meets its contract: what is left above a multiple of the magnitude. Assumes nothing.
 use mathlib.Core.Path.{_∙_, sym, ap}
 use Prim.Native.Nat.{ℕ}
 use lib.IntN.{_-ℤ_}
@@ -6,8 +6,8 @@ use Rattle.exact.specs.Meaning.{numberOf}
 use Rattle.exact.specs.Signs.{abs-sign}
 use Rattle.units.specs.Meaning.{floorTo}
 use borrow.Author.Needs.{needs}
-use Rattle.further.proofs.results.rem_euclid.Statement.{statement}
-use Rattle.further.proofs.results.rem_euclid.Tie as tie
+use Rattle.results.proofs.rem_euclid.Statement.{statement}
+use Rattle.results.proofs.rem_euclid.Tie as tie
 
 modulo-requires : tie.Need-modulo-requires
 modulo-requires c κs = search needs

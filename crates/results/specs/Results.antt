@@ -1,4 +1,4 @@
--- The operations on signs and magnitudes, as the code computes them. Assumes nothing.
+-- The operations on signs and magnitudes, as the code computes them, for the crate `further` too. Assumes nothing.
 use mathlib.Core.Path.{_≡_, refl, sym, ap, _∙_}
 use mathlib.Core.Bool.{Bool, true, false, not, Bool·beq}
 use Prim.Native.Nat.{ℕ, zero, suc, _+_, _*_, _-_, _^_, _≤_, _<_, min}
@@ -8,7 +8,7 @@ use lib.IntN.{ℤ, pos, negsuc, negℤ, natAbs, _+ℤ_}
 use Rattle.laws.specs.Floor.{floor}
 use Rattle.format.specs.Meaning.{withSign}
 use Rattle.exact.specs.Signs.{negated, abs-sign, one-word, sum-same, sum-apart, sum-turned}
-use Rattle.further.specs.Meaning.{quotEuclid}
+use Rattle.results.specs.Meaning.{quotEuclid}
 
 pub via₃ : (op : ℤ → ℤ → ℤ → ℤ) {x y z r a b c : ℤ} → x ≡ a → y ≡ b → z ≡ c → r ≡ op x y z → r ≡ op a b c
 via₃ op {y = y} {z = z} {a = a} {b = b} p q s e = e ∙ ap (λ (v : ℤ). op v y z) p ∙ ap (λ (v : ℤ). op a v z) q ∙ ap (op a b) s

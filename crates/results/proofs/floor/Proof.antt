@@ -1,9 +1,9 @@
--- `further::results::floor` meets its contract, by the sign. Assumes nothing.
+-- `results::floor` meets its contract, by the sign. Assumes nothing.
 use mathlib.Core.Path.{refl}
 use Rattle.exact.specs.Signs.{floor-above, floor-turned}
 use borrow.Author.Needs.{needs}
-use Rattle.further.proofs.results.floor.Statement.{statement}
-use Rattle.further.proofs.results.floor.Tie as tie
+use Rattle.results.proofs.floor.Statement.{statement}
+use Rattle.results.proofs.floor.Tie as tie
 
 above-requires : tie.Need-above-requires
 above-requires c κs = search needs

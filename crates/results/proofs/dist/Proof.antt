@@ -1,12 +1,12 @@
--- `further::results::dist` meets its contract: the magnitude of the difference. Assumes nothing.
+-- `results::dist` meets its contract: the magnitude of the difference. Assumes nothing.
 use mathlib.Core.Path.{_∙_, ap}
 use Prim.Native.Nat.{_+_, _*_, _^_}
 use lib.IntN.{ℤ, _+ℤ_}
 use Rattle.exact.specs.Meaning.{numberOf}
-use Rattle.further.specs.Results.{size-of}
+use Rattle.results.specs.Results.{size-of}
 use borrow.Author.Needs.{needs}
-use Rattle.further.proofs.results.dist.Statement.{statement}
-use Rattle.further.proofs.results.dist.Tie as tie
+use Rattle.results.proofs.dist.Statement.{statement}
+use Rattle.results.proofs.dist.Tie as tie
 
 negated-requires : tie.Need-negated-requires
 negated-requires c κs = search needs

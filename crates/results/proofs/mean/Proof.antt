@@ -1,10 +1,10 @@
--- `further::results::mean` meets its contract: the floor of half the sum. Assumes nothing.
+-- `results::mean` meets its contract: the floor of half the sum. Assumes nothing.
 use mathlib.Core.Path.{_∙_, ap}
 use lib.IntN.{ℤ}
 use Rattle.laws.specs.Floor.{floor}
 use borrow.Author.Needs.{needs}
-use Rattle.further.proofs.results.mean.Statement.{statement}
-use Rattle.further.proofs.results.mean.Tie as tie
+use Rattle.results.proofs.mean.Statement.{statement}
+use Rattle.results.proofs.mean.Tie as tie
 
 sum-requires : tie.Need-sum-requires
 sum-requires c κs = search needs

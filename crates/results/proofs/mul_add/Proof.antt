@@ -1,4 +1,4 @@
--- `further::results::mul_add` meets its contract: the floor of the two words of the product, and a word. Assumes nothing.
+-- `results::mul_add` meets its contract: the floor of the two words of the product, and a word. Assumes nothing.
 use mathlib.Core.Path.{_∙_, ap}
 use mathlib.Core.Bool.{not, Bool·beq}
 use Prim.Native.Nat.{_+_, _*_, _^_}
@@ -7,10 +7,10 @@ use Rattle.laws.specs.Floor.{floor}
 use Rattle.format.specs.Meaning.{withSign}
 use Rattle.exact.specs.Meaning.{numberOf}
 use Rattle.exact.specs.Signs.{product-sign}
-use Rattle.further.specs.Results.{room}
+use Rattle.results.specs.Results.{room}
 use borrow.Author.Needs.{needs}
-use Rattle.further.proofs.results.mul_add.Statement.{statement}
-use Rattle.further.proofs.results.mul_add.Tie as tie
+use Rattle.results.proofs.mul_add.Statement.{statement}
+use Rattle.results.proofs.mul_add.Tie as tie
 
 mul-requires : tie.Need-mul-requires
 mul-requires c κs = search needs

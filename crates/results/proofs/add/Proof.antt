@@ -1,12 +1,12 @@
--- `further::results::add` meets its contract, by equal and unequal signs. Assumes nothing.
+-- `results::add` meets its contract, by equal and unequal signs. Assumes nothing.
 use mathlib.Core.Path.{_∙_, sym}
 use native.Mathlib.Omega.{arith}
 use Prim.Native.Nat.{_+_, _*_, _^_}
 use borrow.Author.Tests.{ltb-true, ltb-false}
-use Rattle.further.specs.Results.{sum-room, add-same, add-apart, add-turned}
+use Rattle.results.specs.Results.{sum-room, add-same, add-apart, add-turned}
 use borrow.Author.Needs.{needs}
-use Rattle.further.proofs.results.add.Statement.{statement}
-use Rattle.further.proofs.results.add.Tie as tie
+use Rattle.results.proofs.add.Statement.{statement}
+use Rattle.results.proofs.add.Tie as tie
 
 add-requires : tie.Need-add-requires
 add-requires c κs =

@@ -1,11 +1,11 @@
--- `further::results::above` meets its contract: 0 stays, and else down is one more in magnitude. Assumes nothing.
+-- `results::above` meets its contract: 0 stays, and else down is one more in magnitude. Assumes nothing.
 use mathlib.Core.Path.{refl}
 use native.Mathlib.Omega.{arith}
 use Rattle.exact.specs.Signs.{floor-below}
 use Rattle.units.specs.Units.{above-zero, above-fits}
 use borrow.Author.Needs.{needs}
-use Rattle.further.proofs.results.above.Statement.{statement}
-use Rattle.further.proofs.results.above.Tie as tie
+use Rattle.results.proofs.above.Statement.{statement}
+use Rattle.results.proofs.above.Tie as tie
 
 returns : tie.Need-returns
 returns c = search above-zero
