@@ -6,8 +6,9 @@ use Rattle.format.specs.declared.Manner.the-variants.{Strict, Wrapping, Overflo
 use Rattle.format.specs.Meaning.{signed, unsigned, isWidth, faultOf, unless, lowest, highest, fits, wrap, settle, done, refused}
 use Rattle.exact.specs.Meaning.{orElse}
 use Rattle.arith.specs.Meaning.{divisorFault}
-use Rattle.whole.specs.Meaning.{bySize}
-use Rattle.further.specs.Meaning.{quotEuclid, absOf, signumOf, remEuclidOf, divEuclidOf, mulAddOf, distOf, meanOf}
+use Rattle.units.specs.Meaning.{bySize}
+use Rattle.results.specs.Meaning.{quotEuclid}
+use Rattle.further.specs.Meaning.{absOf, signumOf, remEuclidOf, divEuclidOf, mulAddOf, distOf, meanOf}
 
 -- |-5| is 5; of the minimum it wraps to the minimum
 abs-five : absOf Wrapping signed 32 16 (negsuc 327679) ≡ done (pos 327680) false

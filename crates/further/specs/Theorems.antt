@@ -10,9 +10,9 @@ use lib.Signed.{_≤ℤ_, _<ℤ_}
 use Rattle.laws.specs.Diff.{eq-in, up-neg, dn-neg, add-out, sub-out, up-mul, dn-mul}
 use Rattle.laws.specs.Floor.{floor, floor-out, shrZ-add}
 use Rattle.laws.specs.Signed.{signed as kit}
-use Rattle.whole.specs.Meaning.{bySize, floorTo}
-use Rattle.whole.specs.Theorems.{floor-below}
-use Rattle.further.specs.Meaning.{signOf, remEuclid, quotEuclid}
+use Rattle.units.specs.Meaning.{bySize, floorTo}
+use Rattle.units.specs.Theorems.{floor-below}
+use Rattle.results.specs.Meaning.{signOf, remEuclid, quotEuclid}
 
 -- ---- a = q b + r with 0 <= r < |b|
 put-back : (a p : ℤ) → p +ℤ (a -ℤ p) ≡ a

@@ -1,4 +1,3 @@
 // More arithmetic of the crate: the exact result in whole steps, then the manner of `format`.
-mod results;
 pub mod signed;
 pub mod unsigned;

@@ -1,6 +1,5 @@
 // More arithmetic in a signed format.
 ghost use Rattle.further.specs.Promise.{SignedAbs, SignedSignum, SignedRemEuclid, SignedDivEuclid, SignedMulAdd, SignedDist, SignedMean};
-use crate::results;
 use arith::refusal;
 use format::Manner;
 use format::SignedAnswer;

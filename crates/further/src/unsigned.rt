@@ -1,6 +1,5 @@
 // More arithmetic in an unsigned format.
 ghost use Rattle.further.specs.Promise.{UnsignedAbs, UnsignedSignum, UnsignedRemEuclid, UnsignedDivEuclid, UnsignedMulAdd, UnsignedDist, UnsignedMean};
-use crate::results;
 use arith::refusal;
 use format::Manner;
 use format::UnsignedAnswer;

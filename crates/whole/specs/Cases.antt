@@ -5,7 +5,8 @@ use lib.IntN.{pos, negsuc}
 use Rattle.laws.specs.Nearest.{nearestBy, nearestEven}
 use Rattle.format.specs.declared.Manner.the-variants.{Strict, Saturating, Wrapping, Overflowing}
 use Rattle.format.specs.Meaning.{signed, unsigned, isWidth, faultOf, unless, lowest, highest, fits, hold, wrap, settle, done, refused}
-use Rattle.whole.specs.Meaning.{nearestAway, bySize, intPart, floorOf, ceilOf, roundOf, evenOf, intOf, fracOf}
+use Rattle.units.specs.Meaning.{nearestAway, bySize, intPart}
+use Rattle.whole.specs.Meaning.{floorOf, ceilOf, roundOf, evenOf, intOf, fracOf}
 
 -- I16F16: 12.25 is 802816 steps, and 12 is 786432
 int-above : intOf Wrapping signed 32 16 (pos 802816) ≡ done (pos 786432) false

@@ -2,4 +2,3 @@ pub mod Cases
 pub mod Meaning
 pub mod Promise
 pub mod Theorems
-pub mod Units

@@ -16,14 +16,10 @@ use Rattle.laws.specs.Floor.{floor, floor-out}
 use Rattle.laws.specs.Nearest.{Nearest, nearest, nearestEven}
 use Rattle.laws.specs.Order.{mul-out}
 use Rattle.laws.specs.Signed.{signed as kit}
-use Rattle.whole.specs.Meaning.{nearestAway, bySize, floorTo, ceilTo, intPart, fracPart}
+use Rattle.units.specs.Meaning.{nearestAway, bySize, floorTo, ceilTo, intPart, fracPart}
+use Rattle.units.specs.Theorems.{floor-below}
 
--- ---- down and up: a whole number of units, not above z and less than a unit below it; and the same the other way
-pub floor-below : (z : ℤ) (m : ℕ) → 0 < m → (floorTo z m ≤ℤ z) × (z <ℤ (floorTo z m +ℤ pos m))
-floor-below z m h =
-    let q = floor z m in
-    (omega (kit, floor-out z m h, mul-out q m), omega (kit, floor-out z m h, mul-out q m, add-out (q *ℤ pos m) (pos m)))
-
+-- ---- up: a whole number of units, not below z and less than a unit above it (down: `floor-below` of `units`)
 pub ceil-above : (z : ℤ) (m : ℕ) → 0 < m → (z ≤ℤ ceilTo z m) × (ceilTo z m <ℤ (z +ℤ pos m))
 ceil-above z m h =
     let q = floor (negℤ z) m in

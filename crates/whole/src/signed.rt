@@ -1,6 +1,5 @@
 // Whole numbers of a signed format.
 ghost use Rattle.whole.specs.Promise.{SignedFloor, SignedCeil, SignedRound, SignedEven, SignedInt, SignedFrac};
-use crate::units;
 use format::Manner;
 use format::SignedAnswer;
 

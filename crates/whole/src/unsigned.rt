@@ -1,6 +1,5 @@
 // Whole numbers of an unsigned format.
 ghost use Rattle.whole.specs.Promise.{UnsignedFloor, UnsignedCeil, UnsignedRound, UnsignedEven, UnsignedInt, UnsignedFrac};
-use crate::units;
 use format::Manner;
 use format::UnsignedAnswer;
 

@@ -7,7 +7,7 @@ use lib.IntN.{ℤ, pos, _*ℤ_}
 use Rattle.format.specs.Answer.{fault-signed}
 use Rattle.exact.specs.Refusals.{checked}
 use Rattle.exact.specs.Settled.{one-signed}
-use Rattle.further.specs.Meaning.{signOf}
+use Rattle.results.specs.Meaning.{signOf}
 use borrow.Author.Needs.{needs}
 use Rattle.further.proofs.signed.signum.Statement.{statement}
 use Rattle.further.proofs.signed.signum.Tie as tie

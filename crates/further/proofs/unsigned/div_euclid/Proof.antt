@@ -6,7 +6,7 @@ use Rattle.exact.specs.Refusals.{met}
 use Rattle.arith.specs.Refusals.{divisor-none, at-divisor}
 use Rattle.exact.specs.Signs.{via₂, some-size}
 use Rattle.exact.specs.Settled.{fitted-unsigned}
-use Rattle.further.specs.Meaning.{quotEuclid}
+use Rattle.results.specs.Meaning.{quotEuclid}
 use borrow.Author.Needs.{needs}
 use Rattle.further.proofs.unsigned.div_euclid.Statement.{statement}
 use Rattle.further.proofs.unsigned.div_euclid.Tie as tie

@@ -3,7 +3,7 @@ use Prim.Native.Nat.{_^_}
 use lib.IntN.{ℤ, _+ℤ_, _*ℤ_}
 use Rattle.laws.specs.Floor.{floor}
 use Rattle.exact.specs.Settled.{settled-unsigned}
-use Rattle.further.specs.Results.{via₃}
+use Rattle.results.specs.Results.{via₃}
 use borrow.Author.Needs.{needs}
 use Rattle.further.proofs.unsigned.mul_add.Statement.{statement}
 use Rattle.further.proofs.unsigned.mul_add.Tie as tie

@@ -5,7 +5,7 @@ use Rattle.exact.specs.Refusals.{met}
 use Rattle.arith.specs.Refusals.{divisor-none, at-divisor}
 use Rattle.exact.specs.Signs.{via₂, some-size}
 use Rattle.exact.specs.Settled.{fitted-unsigned}
-use Rattle.further.specs.Meaning.{remEuclid}
+use Rattle.results.specs.Meaning.{remEuclid}
 use borrow.Author.Needs.{needs}
 use Rattle.further.proofs.unsigned.rem_euclid.Statement.{statement}
 use Rattle.further.proofs.unsigned.rem_euclid.Tie as tie

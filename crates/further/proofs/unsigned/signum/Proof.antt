@@ -4,7 +4,7 @@ use lib.IntN.{ℤ, pos, _*ℤ_}
 use Rattle.format.specs.Answer.{fault-unsigned}
 use Rattle.exact.specs.Refusals.{checked}
 use Rattle.exact.specs.Settled.{one-unsigned}
-use Rattle.further.specs.Meaning.{signOf}
+use Rattle.results.specs.Meaning.{signOf}
 use borrow.Author.Needs.{needs}
 use Rattle.further.proofs.unsigned.signum.Statement.{statement}
 use Rattle.further.proofs.unsigned.signum.Tie as tie

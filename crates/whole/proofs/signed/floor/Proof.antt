@@ -7,7 +7,7 @@ use lib.IntN.{ℤ}
 use Rattle.format.specs.Answer.{fault-signed}
 use Rattle.exact.specs.Refusals.{checked}
 use Rattle.exact.specs.Settled.{one-signed}
-use Rattle.whole.specs.Meaning.{floorTo}
+use Rattle.units.specs.Meaning.{floorTo}
 use borrow.Author.Needs.{needs}
 use Rattle.whole.proofs.signed.floor.Statement.{statement}
 use Rattle.whole.proofs.signed.floor.Tie as tie

@@ -5,7 +5,7 @@ use mir.Facts.{toZ-ofZ}
 use Rattle.format.specs.Answer.{fault-signed}
 use Rattle.exact.specs.Refusals.{checked}
 use Rattle.exact.specs.Settled.{one-signed}
-use Rattle.whole.specs.Meaning.{intPart}
+use Rattle.units.specs.Meaning.{intPart}
 use borrow.Author.Needs.{needs}
 use Rattle.whole.proofs.signed.int.Statement.{statement}
 use Rattle.whole.proofs.signed.int.Tie as tie

@@ -4,7 +4,7 @@ use lib.IntN.{ℤ}
 use Rattle.format.specs.Answer.{fault-unsigned}
 use Rattle.exact.specs.Refusals.{checked}
 use Rattle.exact.specs.Settled.{one-unsigned}
-use Rattle.whole.specs.Meaning.{floorTo}
+use Rattle.units.specs.Meaning.{floorTo}
 use borrow.Author.Needs.{needs}
 use Rattle.whole.proofs.unsigned.floor.Statement.{statement}
 use Rattle.whole.proofs.unsigned.floor.Tie as tie

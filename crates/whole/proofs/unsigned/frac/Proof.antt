@@ -2,7 +2,7 @@
 use Rattle.format.specs.Answer.{fault-unsigned}
 use Rattle.exact.specs.Refusals.{checked}
 use Rattle.exact.specs.Settled.{one-unsigned}
-use Rattle.whole.specs.Meaning.{fracPart}
+use Rattle.units.specs.Meaning.{fracPart}
 use borrow.Author.Needs.{needs}
 use Rattle.whole.proofs.unsigned.frac.Statement.{statement}
 use Rattle.whole.proofs.unsigned.frac.Tie as tie

@@ -2,7 +2,7 @@
 use Rattle.format.specs.Answer.{fault-unsigned}
 use Rattle.exact.specs.Refusals.{checked}
 use Rattle.exact.specs.Settled.{one-unsigned}
-use Rattle.whole.specs.Meaning.{intPart}
+use Rattle.units.specs.Meaning.{intPart}
 use borrow.Author.Needs.{needs}
 use Rattle.whole.proofs.unsigned.int.Statement.{statement}
 use Rattle.whole.proofs.unsigned.int.Tie as tie
