@@ -1,4 +1,4 @@
--- `arith_cases::show::bytes` is safe and ends: the index stays within the buffer. Assumes nothing.
+-- `shown::bytes` is safe and ends: the index stays within the buffer. Assumes nothing.
 use Prim.Native.Nat.{_≤_, _-_}
 use lib.ListN.{length}
 use borrow.Author.Needs.{needs}
