@@ -4,7 +4,11 @@
 Every public function of a crate stands in the crate's row and in a table of its page, with the promise that its contract cites; one with a `requires`
 stands among the exceptions; every function of a row exists. No `pub fn` stands in a module without `pub`, and every `pub(crate) fn` with a `requires` stands
 in the table of inner functions, with the files that call it. Files, promises, meanings, theorems, `unique` and must-fail edits that are cited exist, and
-every edit is on a page. The header declares what is exported. In names S stands for either sign."""
+every edit is on a page. The header declares what is exported. In names S stands for either sign.
+
+Of each public function's answer the column "One outcome" says what settles it: a law that is declared, or "an equation", which its contract then is; where
+it says "open", the function stands among the exceptions. What a promise unfolds to stands in a Meaning file, or on the list of `laws` in docs/PROMISES.md;
+and a name that a Meaning or Promise file defines is defined nowhere else."""
 
 import re
 import sys
@@ -103,14 +107,101 @@ def paths(page, text, crate):
         see((ROOT / page).parent.joinpath(link).exists(), f"{page}: the link {link} leads nowhere")
 
 
-def cells(text):
-    """(heading, cell) of each cell of each table."""
+def table_rows(text):
+    """The rows of each table, by heading."""
     head = None
     for line in text.splitlines():
         row = [cell.strip() for cell in re.split(r"(?<!\\)\|", line)[1:-1]] if line.startswith("|") else None
         if row and head and not set(row) <= {"---"}:
-            yield from zip(head, row)
+            yield dict(zip(head, row))
         head = (head or row) if row else None
+
+
+def cells(text):
+    """(heading, cell) of each cell of each table."""
+    return [cell for row in table_rows(text) for cell in row.items()]
+
+
+def settled(crate, row):
+    """What settles the answer of each public function, by its row on the crate's page."""
+    page = PAGES.get(crate.name, "")
+    if "no promise" in row or "mathematics only" in row or not page:
+        return
+    cited = [ROOT / path for path in set(re.findall(r"crates/\w+/specs/\w+\.antt", page)) if (ROOT / path).exists()]
+    declared = {name for file in [*crate.glob("specs/*.antt"), *cited] for name in DECLARED.findall(file.read_text())}
+    for module, name, contract in public(crate):
+        full = "::".join(filter(None, (crate.name, module, name)))
+        said = [one.get("One outcome", "") for one in table_rows(page) if named(module, name, one.get("Function", one.get("Export", "")), page)]
+        laws = [law for span in spans(said[0]) for law in spelled(span)] if said else []
+        if said and said[0].startswith("an equation"):
+            ensures = "".join(re.findall(r"ensures \{ λ [r_]\. ⌜(.*?)⌝", contract, re.S)).strip()
+            see(re.match(r"(now )?r ≡ |[A-Z]", ensures) or re.match(r"now \(\w+ \.exit\) ≡ ", ensures), f"docs/promises/{crate.name}.md: the contract of {full} is no equation")
+        else:
+            opened = said and said[0].startswith("open:")
+            see((laws or opened) and all(law in declared for law in laws), f"docs/promises/{crate.name}.md: what settles the answer of {full}? ({said})")
+        open_ones = INDEX.split("Promises that leave something open")[1].split("\n\n")[0]
+        see(not said or not said[0].startswith("open") or f"`{full}`" in open_ones or f"`{crate.name}`" in open_ones, f"docs/PROMISES.md: {full} leaves something open and is no exception")
+
+
+USE = re.compile(r"^(?:ghost )?use Rattle·(\w+?)(?:·specs)?\.specs\.([\w.-]+)\.\{([^}]*)\}", re.M)
+DEFINED = re.compile(r"^ *(?:(?:unfoldable|abbrev) pub|pub (?:record|data)) +([^\s:({]+)", re.M)
+
+
+def believed():
+    """Definitions that promises unfold to stand in Meaning files or on the list of `laws`; a Promise file has promises and laws alone."""
+    listed = {name for row in table_rows(INDEX) for name in spans(row.get("Definition of `laws`", ""))}
+    see(listed, "docs/PROMISES.md: no list of the definitions of `laws`")
+    for name in listed:
+        see(any(name in DEFINED.findall(file.read_text()) for file in CRATES.glob("laws/specs/*.antt")), f"docs/PROMISES.md: `laws` has no definition {name}")
+
+    def definition(crate, module, name):
+        file = CRATES / crate / f"specs/{module}.antt"
+        return file.exists() and name in DEFINED.findall(file.read_text())
+
+    def fine(crate, module, name):
+        return module in ("Meaning", "Promise") or module.startswith("declared") or (crate == "laws" and name in listed) or not definition(crate, module, name)
+
+    for file in sorted([*CRATES.glob("*/specs/Meaning.antt"), *CRATES.glob("*/specs/Promise.antt")]):
+        where = file.relative_to(ROOT)
+        for crate, module, imported in USE.findall(file.read_text()):
+            for name in [one.split(" as ")[0].strip() for one in imported.split(",") if one.strip()]:
+                see(fine(crate, module, name), f"{where}: {name} stands in {module} of {crate}, no Meaning file")
+                see(file.stem == "Promise" or module != "Promise", f"{where}: a meaning cites the promise {name}")
+    for file in sorted(CRATES.glob("*/specs/Promise.antt")):
+        for name in DEFINED.findall(file.read_text()):
+            see(name[0].isupper(), f"{file.relative_to(ROOT)}: {name} is no promise; its place is Meaning.antt")
+    for lib in sorted(CRATES.glob("*/src/lib.rt")):
+        crate, row = lib.parent.parent, rows.get(lib.parent.parent.name, "")
+        if "no promise" in row or "mathematics only" in row:
+            continue
+        for module, name, contract in public(crate):
+            source = (crate / f"src/{module or 'lib'}.rt").read_text()
+            names_used = {one.split(" as ")[-1].strip(): (of, part, one.split(" as ")[0].strip()) for of, part, many in USE.findall(source) for one in many.split(",")}
+            if is_inner(row, module, name):
+                continue
+            for word in set(re.findall(r"[\w-]+", contract)) & set(names_used):
+                see(fine(*names_used[word]), f"crates/{crate.name}/src: the contract of {name} cites {word}, which stands in no Meaning or Promise file")
+
+
+def is_inner(row, module, name):
+    """Whether the index says that a function is for other crates of ours alone."""
+    cell = row.split("|")
+    first, functions = (cell[1], cell[2]) if len(cell) > 2 else ("", "")
+    if "(inner" in first:
+        return name not in words(first.split("but for")[1] if "but for" in first else "")
+    after = functions.split("inner:")[1] if "inner:" in functions else ""
+    return f"{module}::{name}" in words(after) or name in words(after)
+
+
+def one_name():
+    """A name that a Meaning or Promise file defines is defined by no other file."""
+    where = {}
+    for file in sorted(CRATES.glob("*/specs/*.antt")):
+        for name in DEFINED.findall(file.read_text()):
+            where.setdefault(name, []).append(file)
+    for name, files in sorted(where.items()):
+        if any(file.stem in ("Meaning", "Promise") for file in files):
+            see(len(files) == 1, f"{name} is several things: " + ", ".join(str(file.relative_to(ROOT)) for file in files))
 
 
 def names(page, text, crate):
@@ -130,7 +221,10 @@ def names(page, text, crate):
 rows = {spans(line)[0]: line for line in INDEX.split("## Exceptions")[0].splitlines() if line.startswith("| `")}
 for lib in sorted(CRATES.glob("*/src/lib.rt")):
     functions(lib.parent.parent, rows.get(lib.parent.parent.name, ""))
+    settled(lib.parent.parent, rows.get(lib.parent.parent.name, ""))
 inner()
+believed()
+one_name()
 paths("docs/PROMISES.md", INDEX, None)
 for stem, text in PAGES.items():
     paths(f"docs/promises/{stem}.md", text, CRATES / stem)

@@ -3,7 +3,10 @@
  * A format is a width (8, 16, 32 or 64), signed or unsigned by the function's name, and frac fraction bits, 0 to the
  * width. A raw r stands for r / 2^frac.
  *
- * Every call answers: number is 0 where it is done, else the refusal. A refusal has flag 0 and value 0. */
+ * Every call answers: number is 0 where it is done, else the refusal. A refusal has flag 0 and value 0.
+ *
+ * A lent buffer is a pointer and a number of places. The buffers of one call must not overlap, unless its function says
+ * otherwise; two that are only read may. */
 #ifndef TAMQORET_H
 #define TAMQORET_H
 

@@ -15,10 +15,10 @@ use Rattle.laws.specs.Powers.{power-sub}
 use Rattle.grammar.specs.Meaning.{num, den, rawOf, textLimit}
 use Rattle.grammar.specs.Naturals.{natOf}
 use Rattle.fold.specs.declared.Folded.{Folded}
-use Rattle.fold.specs.Fold.{foldOf, valueOf, fold-times}
+use Rattle.fold.specs.Fold.{foldOf, foldedValue, fold-times}
 use Rattle.grammar.specs.Run.{bodyOf}
 use Rattle.fold.specs.Body.{asWritten, Taken, body-length}
-use Rattle.bits.specs.Cut.{numberOf, Digits, pow-pow}
+use Rattle.bits.specs.Cut.{bitsNumber, Digits, pow-pow}
 
 -- what a radix is here, and what an exponent scales by
 abbrev pub Power : ℕ → Type 0
@@ -37,20 +37,20 @@ pub record Legal (t : List ℕ) (n after radix base exp frac : ℕ) : Type 0 whe
 
 -- ---- no digit is cut, or one is
 module _ (t : List ℕ) (n width up down : ℕ) (digits : Digits t n width) where
-  pub whole-done : {x r : Folded} {at : ℕ} → down ≤ up → Taken t 0 n (2 ^ width) x at → r ≡ foldOf (valueOf x * 2 ^ (up - down)) → r ≡ foldOf (nearestEven (numberOf t width * 2 ^ up) (2 ^ down))
+  pub whole-done : {x r : Folded} {at : ℕ} → down ≤ up → Taken t 0 n (2 ^ width) x at → r ≡ foldOf (foldedValue x * 2 ^ (up - down)) → r ≡ foldOf (nearestEven (bitsNumber t width * 2 ^ up) (2 ^ down))
   whole-done {x} {r} {at} h all e =
-      let number = numberOf t width in
+      let number = bitsNumber t width in
       let every : take n (bodyOf t) ≡ bodyOf t = take-all n (bodyOf t) (omega (arith, digits .count)) in
       let exact : number * 2 ^ up ≡ number * 2 ^ (up - down) * 2 ^ down = omega (arith, ap (λ (k : ℕ). number * k) (power-sub down up h)) in
       e
-      ∙ ap (λ (z : Folded). foldOf (valueOf z * 2 ^ (up - down))) (all .folded ∙ ap (λ (l : List ℕ). foldOf (natOf (2 ^ width) l)) every)
+      ∙ ap (λ (z : Folded). foldOf (foldedValue z * 2 ^ (up - down))) (all .folded ∙ ap (λ (l : List ℕ). foldOf (natOf (2 ^ width) l)) every)
       ∙ fold-times number (2 ^ (up - down)) (pow-pos (up - down))
       ∙ ap foldOf (sym (ap (λ (k : ℕ). nearestEven k (2 ^ down)) exact ∙ nearest-exact (number * 2 ^ (up - down)) (2 ^ down) (pow-pos down)))
 
-  pub part-done : {r : Folded} → up < down → r ≡ foldOf (nearestEven (numberOf t width) (2 ^ (down - up))) → r ≡ foldOf (nearestEven (numberOf t width * 2 ^ up) (2 ^ down))
+  pub part-done : {r : Folded} → up < down → r ≡ foldOf (nearestEven (bitsNumber t width) (2 ^ (down - up))) → r ≡ foldOf (nearestEven (bitsNumber t width * 2 ^ up) (2 ^ down))
   part-done h e =
-      let scaled = nearest-scale (numberOf t width) (2 ^ (down - up)) (2 ^ up) (pow-pos (down - up)) (pow-pos up) in
-      e ∙ ap foldOf (sym (ap (nearestEven (numberOf t width * 2 ^ up)) (power-sub up down (omega arith)) ∙ scaled))
+      let scaled = nearest-scale (bitsNumber t width) (2 ^ (down - up)) (2 ^ up) (pow-pos (down - up)) (pow-pos up) in
+      e ∙ ap foldOf (sym (ap (nearestEven (bitsNumber t width * 2 ^ up)) (power-sub up down (omega arith)) ∙ scaled))
 
 -- ---- the raw: what the exponent scales by is a power of two as well
 module _ (t : List ℕ) (after radix base exp f width bits : ℕ) (r : radix ≡ 2 ^ width) (b : base ≡ 2 ^ bits) where
@@ -60,25 +60,25 @@ module _ (t : List ℕ) (after radix base exp f width bits : ℕ) (r : radix ≡
   scale : base ^ exp ≡ 2 ^ (bits * exp)
   scale = ap (λ (k : ℕ). k ^ exp) b ∙ pow-pow bits exp
 
-  raw-down : rawOf radix f (asWritten t after base true exp) ≡ nearestEven (numberOf t width * 2 ^ f) (2 ^ (width * after + bits * exp))
+  raw-down : rawOf radix f (asWritten t after base true exp) ≡ nearestEven (bitsNumber t width * 2 ^ f) (2 ^ (width * after + bits * exp))
   unfolding rawOf num den
   raw-down =
-      let up : natOf radix (bodyOf t) * 1 * 2 ^ f ≡ numberOf t width * 2 ^ f = ap (λ (k : ℕ). natOf k (bodyOf t) * 1 * 2 ^ f) r ∙ omega arith in
+      let up : natOf radix (bodyOf t) * 1 * 2 ^ f ≡ bitsNumber t width * 2 ^ f = ap (λ (k : ℕ). natOf k (bodyOf t) * 1 * 2 ^ f) r ∙ omega arith in
       ap₂ nearestEven up (ap₂ (λ (x y : ℕ). x * y) places scale ∙ sym (pow-add 2 (width * after) (bits * exp)))
 
-  raw-up : rawOf radix f (asWritten t after base false exp) ≡ nearestEven (numberOf t width * 2 ^ (f + bits * exp)) (2 ^ (width * after))
+  raw-up : rawOf radix f (asWritten t after base false exp) ≡ nearestEven (bitsNumber t width * 2 ^ (f + bits * exp)) (2 ^ (width * after))
   unfolding rawOf num den
   raw-up =
-      let up : natOf radix (bodyOf t) * base ^ exp * 2 ^ f ≡ numberOf t width * 2 ^ (f + bits * exp) =
-      ap₂ (λ (k m : ℕ). natOf k (bodyOf t) * m * 2 ^ f) r scale ∙ omega (arith, ap (λ (k : ℕ). numberOf t width * k) (pow-add 2 f (bits * exp))) in
+      let up : natOf radix (bodyOf t) * base ^ exp * 2 ^ f ≡ bitsNumber t width * 2 ^ (f + bits * exp) =
+      ap₂ (λ (k m : ℕ). natOf k (bodyOf t) * m * 2 ^ f) r scale ∙ omega (arith, ap (λ (k : ℕ). bitsNumber t width * k) (pow-add 2 f (bits * exp))) in
       let dn : radix ^ after * 1 ≡ 2 ^ (width * after) = omega (arith, places) in
       ap₂ nearestEven up dn
 
-  pub down-done : {x : Folded} {down : Bool} → down ≡ true → x ≡ foldOf (nearestEven (numberOf t width * 2 ^ f) (2 ^ (width * after + bits * exp)))
+  pub down-done : {x : Folded} {down : Bool} → down ≡ true → x ≡ foldOf (nearestEven (bitsNumber t width * 2 ^ f) (2 ^ (width * after + bits * exp)))
       → x ≡ foldOf (rawOf radix f (asWritten t after base down exp))
   down-done e q = rw e (q ∙ ap foldOf (sym raw-down))
 
-  pub up-done : {x : Folded} {down : Bool} → down ≡ false → x ≡ foldOf (nearestEven (numberOf t width * 2 ^ (f + bits * exp)) (2 ^ (width * after)))
+  pub up-done : {x : Folded} {down : Bool} → down ≡ false → x ≡ foldOf (nearestEven (bitsNumber t width * 2 ^ (f + bits * exp)) (2 ^ (width * after)))
       → x ≡ foldOf (rawOf radix f (asWritten t after base down exp))
   up-done e q = rw e (q ∙ ap foldOf (sym raw-up))
 

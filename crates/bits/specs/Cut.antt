@@ -19,14 +19,14 @@ use Rattle.fold.specs.declared.Folded.{Folded}
 use Rattle.fold.specs.declared.Order.{Order}
 use Rattle.fold.specs.declared.Order.the-variants.{Less, Same, More}
 use Rattle.fold.specs.Round.{orderOf, roundBy, order-less, order-more, order-same, nearest-middle}
-use Rattle.fold.specs.Fold.{foldOf, valueOf, fold-step, fold-round}
+use Rattle.fold.specs.Fold.{foldOf, foldedValue, fold-step, fold-round}
 use Rattle.grammar.specs.Run.{bodyOf}
-use Rattle.fold.specs.Body.{digitsFrom, anyOf, Next, Taken}
+use Rattle.fold.specs.Body.{digitsAt, anyOf, Next, Taken}
 use Rattle.bits.specs.Numbers.{nat-around, any-none, any-some, drop-digits}
 
 -- the digits of a text as a number of `width` bits each
-abbrev pub numberOf : List ℕ → ℕ → ℕ
-numberOf t width = natOf (2 ^ width) (bodyOf t)
+abbrev pub bitsNumber : List ℕ → ℕ → ℕ
+bitsNumber t width = natOf (2 ^ width) (bodyOf t)
 
 pub record Digits (t : List ℕ) (n width : ℕ) : Type 0 where
   pub count : n ≡ length (bodyOf t)
@@ -88,7 +88,7 @@ unfoldable pub cutWhole : List ℕ → ℕ → ℕ → ℕ → ℕ
 cutWhole t width count c = front t width count * 2 ^ (width - c) + digitAt t count / 2 ^ c
 
 module _ (t : List ℕ) (n width count c : ℕ) (digits : Digits t n width) (inside : count < n) (one : 1 ≤ c) (most : c ≤ width) where
-  number-is : numberOf t width ≡ (cutWhole t width count c * 2 ^ c + digitAt t count % 2 ^ c) * 2 ^ (width * (n - count - 1)) + behind t width count
+  number-is : bitsNumber t width ≡ (cutWhole t width count c * 2 ^ c + digitAt t count % 2 ^ c) * 2 ^ (width * (n - count - 1)) + behind t width count
   unfolding cutWhole
   number-is =
       let f = front t width count in
@@ -107,7 +107,7 @@ module _ (t : List ℕ) (n width count c : ℕ) (digits : Digits t n width) (ins
       (natOf-below (2 ^ width) (drop (suc count) (bodyOf t)) (drop-digits (suc count) (digits .below)))
 
   cut-is : {any : Bool} → any ≡ anyOf (drop (suc count) (bodyOf t))
-      → nearestEven (numberOf t width) (2 ^ (width * (n - count - 1) + c)) ≡ roundBy (cutOf (digitAt t count % 2 ^ c) (2 ^ (c - 1)) any) (cutWhole t width count c)
+      → nearestEven (bitsNumber t width) (2 ^ (width * (n - count - 1) + c)) ≡ roundBy (cutOf (digitAt t count % 2 ^ c) (2 ^ (c - 1)) any) (cutWhole t width count c)
   cut-is {any} e =
       ap₂ nearestEven number-is (pow-add 2 (width * (n - count - 1)) c)
       ∙ cut-nearest (cutWhole t width count c) (digitAt t count % 2 ^ c) (behind t width count) (2 ^ c) (2 ^ (width * (n - count - 1))) (2 ^ (c - 1))
@@ -117,33 +117,33 @@ module _ (t : List ℕ) (n width count c : ℕ) (digits : Digits t n width) (ins
 
   -- the same as the code finds it: x the digits in front, d the digit, y the whole number in front of the cut
   pub cut-done :
-      {x y r : Folded} {at d next : ℕ} {any : Bool} {how : Order} → Taken t 0 count (2 ^ width) x at → Next t at d next → any ≡ anyOf (digitsFrom t next)
-      → y ≡ foldOf (valueOf x * 2 ^ (width - c) + d / 2 ^ c) → how ≡ cutOf (d % 2 ^ c) (2 ^ (c - 1)) any → r ≡ foldOf (roundBy how (valueOf y))
-      → r ≡ foldOf (nearestEven (numberOf t width) (2 ^ (width * (n - count - 1) + c)))
+      {x y r : Folded} {at d next : ℕ} {any : Bool} {how : Order} → Taken t 0 count (2 ^ width) x at → Next t at d next → any ≡ anyOf (digitsAt t next)
+      → y ≡ foldOf (foldedValue x * 2 ^ (width - c) + d / 2 ^ c) → how ≡ cutOf (d % 2 ^ c) (2 ^ (c - 1)) any → r ≡ foldOf (roundBy how (foldedValue y))
+      → r ≡ foldOf (nearestEven (bitsNumber t width) (2 ^ (width * (n - count - 1) + c)))
   unfolding cutWhole
   cut-done {x} {y} {r} {at} {d} {next} {any} {how} head digit rest whole by end =
       let is-digit : d ≡ digitAt t count = digit .first ∙ ap (λ (l : List ℕ). getD l 0 0) (head .rest) ∙ getD-drop count (bodyOf t) 0 0 ∙ ap (λ (j : ℕ). getD (bodyOf t) j 0) (omega arith) in
       let is-rest : any ≡ anyOf (drop (suc count) (bodyOf t)) =
       rest ∙ ap anyOf (digit .rest ∙ ap (drop 1) (head .rest) ∙ drop-drop 1 count (bodyOf t) ∙ ap (λ (j : ℕ). drop j (bodyOf t)) (add-one count)) in
       let is-whole : y ≡ foldOf (cutWhole t width count c) =
-      whole ∙ ap₂ (λ (z : Folded) (v : ℕ). foldOf (valueOf z * 2 ^ (width - c) + v / 2 ^ c)) (head .folded) is-digit
+      whole ∙ ap₂ (λ (z : Folded) (v : ℕ). foldOf (foldedValue z * 2 ^ (width - c) + v / 2 ^ c)) (head .folded) is-digit
       ∙ fold-step (front t width count) (2 ^ (width - c)) (digitAt t count / 2 ^ c) (pow-pos (width - c)) in
       let is-how : how ≡ cutOf (digitAt t count % 2 ^ c) (2 ^ (c - 1)) any = by ∙ ap (λ (v : ℕ). cutOf (v % 2 ^ c) (2 ^ (c - 1)) any) is-digit in
-      end ∙ ap₂ (λ (o : Order) (z : Folded). foldOf (roundBy o (valueOf z))) is-how is-whole
+      end ∙ ap₂ (λ (o : Order) (z : Folded). foldOf (roundBy o (foldedValue z))) is-how is-whole
       ∙ fold-round (cutWhole t width count c) (cutOf (digitAt t count % 2 ^ c) (2 ^ (c - 1)) any)
       ∙ ap foldOf (sym (cut-is is-rest))
 
 -- ---- fewer digits than are behind the cut: the number is below one half
-cut-away : (t : List ℕ) (n width s : ℕ) → Digits t n width → 0 < s → n ≤ (s - 1) / width → nearestEven (numberOf t width) (2 ^ s) ≡ 0
+cut-away : (t : List ℕ) (n width s : ℕ) → Digits t n width → 0 < s → n ≤ (s - 1) / width → nearestEven (bitsNumber t width) (2 ^ s) ≡ 0
 cut-away t n width s digits some far =
     let low = (s - 1) / width in
-    let size : numberOf t width < 2 ^ (width * n) =
-    subst (λ (m : ℕ). numberOf t width < m) (pow-pow width (length (bodyOf t)) ∙ ap (λ (k : ℕ). 2 ^ (width * k)) (sym (digits .count)))
+    let size : bitsNumber t width < 2 ^ (width * n) =
+    subst (λ (m : ℕ). bitsNumber t width < m) (pow-pow width (length (bodyOf t)) ∙ ap (λ (k : ℕ). 2 ^ (width * k)) (sym (digits .count)))
     (natOf-below (2 ^ width) (bodyOf t) (digits .below)) in
     let fewer : n * width ≤ low * width = mul-le-mul-right width far in
     let most : low * width + 1 ≤ s = omega (arith, div-add-mod' (s - 1) width) in
     let up : 2 ^ (width * n + 1) ≤ 2 ^ s = pow-mono {i = width * n + 1} {j = s} (omega arith) in
-    nearest-none (numberOf t width) (2 ^ s) (omega (arith, pow-add 2 (width * n) 1))
+    nearest-none (bitsNumber t width) (2 ^ s) (omega (arith, pow-add 2 (width * n) 1))
 
 -- ---- where the cut is: `low` digits behind the one that is cut, and c bits of that one
 pub cut-bits : (s width : ℕ) → 0 < width → (s - 1) % width + 1 ≤ width
@@ -156,9 +156,9 @@ cut-at n s width h k =
     omega (arith, ap (λ (j : ℕ). width * j) e, div-add-mod' (s - 1) width)
 
 pub cut-found : (t : List ℕ) (n s width : ℕ) {r : Folded} → 0 < s → (s - 1) / width < n
-    → r ≡ foldOf (nearestEven (numberOf t width) (2 ^ (width * (n - (n - (s - 1) / width - 1) - 1) + ((s - 1) % width + 1))))
-    → r ≡ foldOf (nearestEven (numberOf t width) (2 ^ s))
-cut-found t n s width h k e = e ∙ ap (λ (j : ℕ). foldOf (nearestEven (numberOf t width) (2 ^ j))) (cut-at n s width h k)
+    → r ≡ foldOf (nearestEven (bitsNumber t width) (2 ^ (width * (n - (n - (s - 1) / width - 1) - 1) + ((s - 1) % width + 1))))
+    → r ≡ foldOf (nearestEven (bitsNumber t width) (2 ^ s))
+cut-found t n s width h k e = e ∙ ap (λ (j : ℕ). foldOf (nearestEven (bitsNumber t width) (2 ^ j))) (cut-at n s width h k)
 
-pub cut-none : (t : List ℕ) (n s width : ℕ) {r : Folded} → Digits t n width → 0 < s → n ≤ (s - 1) / width → r ≡ foldOf 0 → r ≡ foldOf (nearestEven (numberOf t width) (2 ^ s))
+pub cut-none : (t : List ℕ) (n s width : ℕ) {r : Folded} → Digits t n width → 0 < s → n ≤ (s - 1) / width → r ≡ foldOf 0 → r ≡ foldOf (nearestEven (bitsNumber t width) (2 ^ s))
 cut-none t n s width digits h k e = e ∙ ap foldOf (sym (cut-away t n width s digits h k))

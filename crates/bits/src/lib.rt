@@ -6,7 +6,7 @@ ghost use Rattle.laws.specs.Nearest.{nearestEven};
 ghost use Rattle.grammar.specs.Meaning.{rawOf};
 ghost use Rattle.fold.specs.Fold.{foldOf};
 ghost use Rattle.fold.specs.Body.{asWritten};
-ghost use Rattle.bits.specs.Cut.{Digits, numberOf, cutOf};
+ghost use Rattle.bits.specs.Cut.{Digits, bitsNumber, cutOf};
 ghost use Rattle.bits.specs.Bits.{Legal, Power};
 use fold::Folded;
 use fold::Order;
@@ -63,7 +63,7 @@ fn power(k: u64) -> u64
 // The digits times 2^up over 2^down, rounded. They are cut only if more bits go than come.
 fn scaled(body: &[u8], n: usize, width: u64, up: u64, down: u64) -> Folded
     requires { ⌜ Digits (now body) n width ⌝ }
-    ensures { λ r. ⌜ r ≡ foldOf (nearestEven (numberOf (now (body .entry)) width * 2 ^ up) (2 ^ down)) ⌝ }
+    ensures { λ r. ⌜ r ≡ foldOf (nearestEven (bitsNumber (now (body .entry)) width * 2 ^ up) (2 ^ down)) ⌝ }
 {
     if down <= up {
         let all = body::fold_digits(body, 0, n, power(width));
@@ -75,7 +75,7 @@ fn scaled(body: &[u8], n: usize, width: u64, up: u64, down: u64) -> Folded
 // The digits over 2^s, rounded. The cut leaves whole digits behind it, and 1 to `width` bits of the digit before those.
 fn part(body: &[u8], n: usize, width: u64, s: u64) -> Folded
     requires { ⌜ Digits (now body) n width × (0 < s) ⌝ }
-    ensures { λ r. ⌜ r ≡ foldOf (nearestEven (numberOf (now (body .entry)) width) (2 ^ s)) ⌝ }
+    ensures { λ r. ⌜ r ≡ foldOf (nearestEven (bitsNumber (now (body .entry)) width) (2 ^ s)) ⌝ }
 {
     let low = (s - 1) / width;
     let c = (s - 1) % width + 1;
@@ -88,7 +88,7 @@ fn part(body: &[u8], n: usize, width: u64, s: u64) -> Folded
 // The cut in the digit number `count`, with c of its bits behind it.
 fn cut(body: &[u8], n: usize, width: u64, count: usize, c: u64) -> Folded
     requires { ⌜ Digits (now body) n width × (count < n) × (1 ≤ c) × (c ≤ width) ⌝ }
-    ensures { λ r. ⌜ r ≡ foldOf (nearestEven (numberOf (now (body .entry)) width) (2 ^ (width * (n - count - 1) + c))) ⌝ }
+    ensures { λ r. ⌜ r ≡ foldOf (nearestEven (bitsNumber (now (body .entry)) width) (2 ^ (width * (n - count - 1) + c))) ⌝ }
 {
     let head = body::fold_digits(body, 0, count, power(width));
     let next = body::next_digit(body, head.at);

@@ -16,7 +16,7 @@ use Rattle.format.specs.declared.UnsignedAnswer.the-variants.{Done as DoneU, Re
 use Rattle.format.specs.Meaning.{signed, unsigned, faultOf, settle, wrap, done, withSign, signedAnswer, unsignedAnswer, valueU}
 use Rattle.format.specs.Answer.{fault-unsigned, pass-unsigned}
 use Rattle.exact.specs.Meaning.{orElse}
-use Rattle.byte_order.specs.Meaning.{leBytes, fromBe, lowBits, littleOf, bigOf, roomFault, lengthFault, bufferOf}
+use Rattle.byte_order.specs.Meaning.{leBytes, fromBe, lowBits, littleOf, bigOf, bufferFault, lengthFault, bufferOf}
 use Rattle.byte_order.specs.Bytes.{swapped-reversed}
 use Rattle.byte_order.specs.Promise.{Stored}
 use Rattle.exact.specs.Signs.{one-word}
@@ -35,12 +35,12 @@ low-of w e q p = p ∙ ap valueU q ∙ ap (λ (z : ℤ). up (wrap unsigned w z))
 
 -- s is the number of bytes, n that of the places
 module _ (w n : ℕ) {s : ℕ} (e : s ≡ w / 8) where
-  pub room-in : s ≤ n → 0 ≡ roomFault w n
-  unfolding roomFault
+  pub room-in : s ≤ n → 0 ≡ bufferFault w n
+  unfolding bufferFault
   room-in h = rw (← e, le-leb s n h)
 
-  pub room-past : n < s → 5 ≡ roomFault w n
-  unfolding roomFault
+  pub room-past : n < s → 5 ≡ bufferFault w n
+  unfolding bufferFault
   room-past h = rw (← e, lt-leb s n h)
 
   pub length-is : n ≡ s → 0 ≡ lengthFault w n
@@ -52,8 +52,8 @@ module _ (w n : ℕ) {s : ℕ} (e : s ≡ w / 8) where
   length-not h = rw (← e, ne-eqb n s h)
 
 -- where there is no refusal, the bytes have their places
-pub room-none : (w n : ℕ) {s : ℕ} → s ≡ w / 8 → roomFault w n ≡ 0 → s ≤ n
-unfolding roomFault
+pub room-none : (w n : ℕ) {s : ℕ} → s ≡ w / 8 → bufferFault w n ≡ 0 → s ≤ n
+unfolding bufferFault
 room-none w n {s} e h = go (leb (w / 8) n) refl h
   where
     go : (t : Bool) → leb (w / 8) n ≡ t → _≡_ {A = ℕ} (cond t 0 5) 0 → s ≤ n
@@ -92,7 +92,7 @@ swapped-of w e p q r = r ∙ ap₂ (λ (n m : ℕ). fromBe 0 (leBytes n m)) p (q
 pub stored-at : {w f : ℕ} {out after l m : List ℕ} {r : UnsignedAnswer} → l ≡ m → Stored l w f out after r → Stored m w f out after r
 stored-at {w} {f} {out} {after} {r = r} e p = subst (λ (k : List ℕ). Stored k w f out after r) e p
 
-module _ (w f : ℕ) (out : List ℕ) {fault : ℕ} (e : fault ≡ orElse (faultOf w f) (roomFault w (length out))) where
+module _ (w f : ℕ) (out : List ℕ) {fault : ℕ} (e : fault ≡ orElse (faultOf w f) (bufferFault w (length out))) where
   pub stored-done : {bytes after : List ℕ} {s : ℕ} → fault ≡ 0 → s ≡ w / 8 → after ≡ bytes ++ drop s out → Stored bytes w f out after (DoneU s false)
   unfolding bufferOf unsignedAnswer
   stored-done {bytes} z q p =

@@ -37,19 +37,19 @@ abbrev pub swapOf : Sign → ℕ → ℕ → ℤ → Outcome
 swapOf s w f a = unless (faultOf w f) (done (wrap s w (pos (fromBe 0 (littleOf w a)))) false)
 
 -- "5: output buffer too small, or lists of unequal length"
-unfoldable pub roomFault : ℕ → ℕ → ℕ
-roomFault w n = cond (leb (w / 8) n) 0 5
+unfoldable pub bufferFault : ℕ → ℕ → ℕ
+bufferFault w n = cond (leb (w / 8) n) 0 5
 
 unfoldable pub lengthFault : ℕ → ℕ → ℕ
 lengthFault w n = cond (eqb n (w / 8)) 0 5
 
 -- the raw of W / 8 bytes; x is the number that they are
-abbrev pub fromOf : Sign → ℕ → ℕ → ℕ → ℕ → Outcome
-fromOf s w f n x = unless (orElse (faultOf w f) (lengthFault w n)) (done (wrap s w (pos x)) false)
+abbrev pub fromBytesOf : Sign → ℕ → ℕ → ℕ → ℕ → Outcome
+fromBytesOf s w f n x = unless (orElse (faultOf w f) (lengthFault w n)) (done (wrap s w (pos x)) false)
 
 -- to a buffer with n places: how many bytes are written; and the buffer after, the rest of which stays
-abbrev pub writtenOf : ℕ → ℕ → ℕ → Outcome
-writtenOf w f n = unless (orElse (faultOf w f) (roomFault w n)) (done (pos (w / 8)) false)
+abbrev pub storedOf : ℕ → ℕ → ℕ → Outcome
+storedOf w f n = unless (orElse (faultOf w f) (bufferFault w n)) (done (pos (w / 8)) false)
 
 unfoldable pub bufferOf : ℕ → ℕ → List ℕ → List ℕ → List ℕ
-bufferOf w f bytes out = cond (eqb (orElse (faultOf w f) (roomFault w (length out))) 0) (bytes ++ drop (w / 8) out) out
+bufferOf w f bytes out = cond (eqb (orElse (faultOf w f) (bufferFault w (length out))) 0) (bytes ++ drop (w / 8) out) out

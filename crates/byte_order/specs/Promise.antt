@@ -7,21 +7,21 @@ use lib.IntN.{ℤ, pos}
 use Rattle.format.specs.declared.SignedAnswer.{SignedAnswer}
 use Rattle.format.specs.declared.UnsignedAnswer.{UnsignedAnswer}
 use Rattle.format.specs.Meaning.{signed, unsigned, signedAnswer, unsignedAnswer}
-use Rattle.format.specs.Promise.{unique}
-use Rattle.byte_order.specs.Meaning.{swapOf, fromOf, fromLe, fromBe, writtenOf, bufferOf}
+use Rattle.laws.specs.Unique.{unique}
+use Rattle.byte_order.specs.Meaning.{swapOf, fromBytesOf, fromLe, fromBe, storedOf, bufferOf}
 
 abbrev pub SignedSwap : ℤ → ℕ → ℕ → SignedAnswer → Type 0
 SignedSwap a w f r = r ≡ signedAnswer (swapOf signed w f a)
 
 abbrev pub SignedFromLe : List ℕ → ℕ → ℕ → SignedAnswer → Type 0
-SignedFromLe t w f r = r ≡ signedAnswer (fromOf signed w f (length t) (fromLe t))
+SignedFromLe t w f r = r ≡ signedAnswer (fromBytesOf signed w f (length t) (fromLe t))
 
 abbrev pub SignedFromBe : List ℕ → ℕ → ℕ → SignedAnswer → Type 0
-SignedFromBe t w f r = r ≡ signedAnswer (fromOf signed w f (length t) (fromBe 0 t))
+SignedFromBe t w f r = r ≡ signedAnswer (fromBytesOf signed w f (length t) (fromBe 0 t))
 
 -- to_le_bytes and to_be_bytes of both signs: the answer, and the lent buffer, from `out` to `after`
 pub record Stored (bytes : List ℕ) (w f : ℕ) (out after : List ℕ) (r : UnsignedAnswer) : Type 0 where
-  pub answer : r ≡ unsignedAnswer (writtenOf w f (length out))
+  pub answer : r ≡ unsignedAnswer (storedOf w f (length out))
   pub buffer : after ≡ bufferOf w f bytes out
 
 -- an unsigned operand is a number that is not negative
@@ -29,10 +29,10 @@ abbrev pub UnsignedSwap : ℕ → ℕ → ℕ → UnsignedAnswer → Type 0
 UnsignedSwap a w f r = r ≡ unsignedAnswer (swapOf unsigned w f (pos a))
 
 abbrev pub UnsignedFromLe : List ℕ → ℕ → ℕ → UnsignedAnswer → Type 0
-UnsignedFromLe t w f r = r ≡ unsignedAnswer (fromOf unsigned w f (length t) (fromLe t))
+UnsignedFromLe t w f r = r ≡ unsignedAnswer (fromBytesOf unsigned w f (length t) (fromLe t))
 
 abbrev pub UnsignedFromBe : List ℕ → ℕ → ℕ → UnsignedAnswer → Type 0
-UnsignedFromBe t w f r = r ≡ unsignedAnswer (fromOf unsigned w f (length t) (fromBe 0 t))
+UnsignedFromBe t w f r = r ≡ unsignedAnswer (fromBytesOf unsigned w f (length t) (fromBe 0 t))
 
 -- two answers that meet a promise are equal
 module _ (a : ℤ) (t : List ℕ) (w f : ℕ) {r s : SignedAnswer} where

@@ -20,7 +20,7 @@ use Rattle.format.specs.Theorems.{InRange, Congruent, limit-span, highest-out, 
 use Rattle.format.specs.Fault.{width-bounds, fault-free}
 use Rattle.exact.specs.Meaning.{orElse}
 use Rattle.exact.specs.Theorems.{wrap-same}
-use Rattle.byte_order.specs.Meaning.{leBytes, fromLe, fromBe, lowBits, littleOf, bigOf, lengthFault, fromOf, swapOf}
+use Rattle.byte_order.specs.Meaning.{leBytes, fromLe, fromBe, lowBits, littleOf, bigOf, lengthFault, fromBytesOf, swapOf}
 use Rattle.byte_order.specs.Bytes.{below-next, swapped-reversed}
 
 -- ---- numbers: n bytes hold what is below 2^(8 n)
@@ -127,13 +127,13 @@ fine w f n e q = rw (e, eq-eqb n (w / 8) q)
 
 -- a raw of the format written and read back is the raw, in either order; and a swapped raw swapped is the raw
 module _ (s : Sign) (w f : ℕ) (free : faultOf w f ≡ 0) (a : ℤ) (r : InRange s w a) where
-  pub read-back-le : fromOf s w f (length (littleOf w a)) (fromLe (littleOf w a)) ≡ done a false
+  pub read-back-le : fromBytesOf s w f (length (littleOf w a)) (fromLe (littleOf w a)) ≡ done a false
   read-back-le =
       unless-none (orElse (faultOf w f) (lengthFault w (length (littleOf w a)))) (done (wrap s w (pos (fromLe (littleOf w a)))) false)
       (fine w f (length (littleOf w a)) free (bytes-length (w / 8) (lowBits w a)))
       ∙ ap (λ (z : ℤ). done z false) (to-from-le s w (fault-free w f free .0) a r)
 
-  pub read-back-be : fromOf s w f (length (bigOf w a)) (fromBe 0 (bigOf w a)) ≡ done a false
+  pub read-back-be : fromBytesOf s w f (length (bigOf w a)) (fromBe 0 (bigOf w a)) ≡ done a false
   read-back-be =
       unless-none (orElse (faultOf w f) (lengthFault w (length (bigOf w a)))) (done (wrap s w (pos (fromBe 0 (bigOf w a)))) false)
       (fine w f (length (bigOf w a)) free (length-reverse (littleOf w a) ∙ bytes-length (w / 8) (lowBits w a)))

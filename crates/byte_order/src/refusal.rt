@@ -2,13 +2,13 @@
 ghost use mathlib.Core.Path.{_≡_};
 ghost use Rattle.format.specs.Meaning.{faultOf};
 ghost use Rattle.exact.specs.Meaning.{orElse};
-ghost use Rattle.byte_order.specs.Meaning.{roomFault, lengthFault};
+ghost use Rattle.byte_order.specs.Meaning.{bufferFault, lengthFault};
 
 const WRONG_LENGTH: u32 = 5;
 
 // Of a buffer with len places for a raw's bytes.
 pub(crate) fn of_room(width: u32, frac: u32, len: usize) -> u32
-    ensures { λ r. ⌜ r ≡ orElse (faultOf width frac) (roomFault width len) ⌝ }
+    ensures { λ r. ⌜ r ≡ orElse (faultOf width frac) (bufferFault width len) ⌝ }
 {
     let fault = format::check(width, frac);
     if fault != 0 {

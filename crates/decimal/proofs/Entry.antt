@@ -11,7 +11,7 @@ use Rattle.format.specs.declared.UnsignedAnswer.{UnsignedAnswer}
 use Rattle.format.specs.declared.UnsignedAnswer.the-variants.{Refused}
 use Rattle.format.specs.Meaning.{refused, faultOf, unless, unsignedAnswer}
 use Rattle.format.specs.Settle.{unless-fault, unless-none}
-use Rattle.decimal.specs.Meaning.{textOf, rawText, put, after, writeOf, leftOf}
+use Rattle.decimal.specs.Meaning.{textOf, rawText, put, bufferAfter, writeOf, leftOf}
 use Rattle.decimal.specs.Layout.{putAnswer, putOver}
 
 -- a raw's text is that of its sign and its magnitude
@@ -22,7 +22,7 @@ raw-text (negsuc n) f = ap (λ (b : Bool). textOf b (suc n) f) (lt-ltZ {a = negs
 
 module _ (raw : ℤ) (w f : ℕ) (out : List ℕ) {fault : ℕ} (e : fault ≡ faultOf w f) where
   pub refuses : (fault ≡ 0 → ⊥) → (Refused fault ≡ unsignedAnswer (writeOf raw w f out)) × (out ≡ leftOf raw w f out)
-  unfolding writeOf leftOf after unsignedAnswer
+  unfolding writeOf leftOf bufferAfter unsignedAnswer
   refuses h =
       let o : unless (faultOf w f) (put (rawText raw f) out) ≡ refused (faultOf w f) = unless-fault (faultOf w f) (put (rawText raw f) out) (λ z. h (e ∙ z)) in
       rw o (ap Refused e, refl)

@@ -13,7 +13,7 @@ use lib.Seq.{length-take-le, take-suc-set, take-add, take-append-add, take-lengt
 use borrow.Author.Tests.{eqb-true, eqb-false, ne-eqb, le-leb, lt-leb}
 use Rattle.format.specs.declared.UnsignedAnswer.the-variants.{Done, Refused}
 use Rattle.format.specs.Meaning.{unsignedAnswer}
-use Rattle.decimal.specs.Meaning.{byteOf, minus, fractionBy, fractionDigits, fractionText, put, after}
+use Rattle.decimal.specs.Meaning.{byteOf, signText, fractionBy, fractionDigits, fractionText, put, bufferAfter}
 use Rattle.decimal.specs.Digits.{mod-scale, fraction-scale, ends-start, ends-scale}
 use Rattle.decimal.specs.Layout.{point, first, places, Filled, Ends, wordText, putAnswer, putOver}
 use Rattle.decimal.proofs.Steps.{before}
@@ -21,12 +21,12 @@ use Rattle.decimal.proofs.Steps.{before}
 -- ---- the sign
 module _ (neg : Bool) (at : ℕ) (text : List ℕ) (l : length text ≡ places) where
   pub sign-minus : neg ≡ true → 0 < at → at < places
-      → (at - 1 + length (minus neg) ≡ at) × (drop (at - 1) (set text (at - 1) 45) ≡ minus neg ++ drop at text) × (length (set text (at - 1) 45) ≡ places)
-  unfolding minus
+      → (at - 1 + length (signText neg) ≡ at) × (drop (at - 1) (set text (at - 1) 45) ≡ signText neg ++ drop at text) × (length (set text (at - 1) 45) ≡ places)
+  unfolding signText
   sign-minus e h b = rw e (omega arith, before text at 45 h (omega arith), length-set text (at - 1) 45 ∙ l)
 
-  pub sign-none : neg ≡ false → (at + length (minus neg) ≡ at) × (drop at text ≡ minus neg ++ drop at text) × (length text ≡ places)
-  unfolding minus
+  pub sign-none : neg ≡ false → (at + length (signText neg) ≡ at) × (drop at text ≡ signText neg ++ drop at text) × (length text ≡ places)
+  unfolding signText
   sign-none e = rw e (omega arith, refl, l)
 
 -- ---- the fraction as a fraction of 64 bits
@@ -119,13 +119,13 @@ joined mi wh fr t₀ t₁ t₂ t₃ s a e l f w m =
 -- ---- into the buffer
 module _ (t out : List ℕ) where
   pub put-short : length out < length t → (Refused 5 ≡ putAnswer t out) × (out ≡ putOver t out)
-  unfolding put after unsignedAnswer
+  unfolding put bufferAfter unsignedAnswer
   put-short h = rw (lt-leb (length t) (length out) h) (refl, refl)
 
   pub put-copied : {text left : List ℕ} {start end n : ℕ} → Filled t text start end → end - start ≤ length out → n ≡ length (take (end - start) (drop start text))
       → left ≡ take (length (take (end - start) (drop start text))) (take (end - start) (drop start text)) ++ drop (length (take (end - start) (drop start text))) out
       → (Done n false ≡ putAnswer t out) × (left ≡ putOver t out)
-  unfolding put after unsignedAnswer
+  unfolding put bufferAfter unsignedAnswer
   put-copied {text} {start = start} {end = end} f h e q =
       let size : length t ≤ length out = omega (arith, f .span) in
       rw (le-leb (length t) (length out) size) (ap (λ (k : ℕ). Done k false) (rw (f .is) at e), rw (f .is, take-length) at q)

@@ -14,9 +14,9 @@ use borrow.Author.Tests.{ltb-true}
 use Rattle.laws.specs.Diff.{orders}
 use Rattle.laws.specs.Tests.{lt-ltZ, le-ltZ}
 use Rattle.laws.specs.Text.{bytes}
-use Rattle.format.specs.Meaning.{Outcome, done, refused, isWidth, faultOf, unless}
+use Rattle.format.specs.Meaning.{Outcome, done, refused, isWidth, faultOf, guarded}
 use Rattle.grammar.specs.Run.{both}
-use Rattle.decimal.specs.Meaning.{byteOf, wholeBy, wholeDigits, fractionBy, fractionDigits, minus as signOf, wholeText, fractionText, textOf, rawText, put, after, writeOf, leftOf}
+use Rattle.decimal.specs.Meaning.{byteOf, wholeBy, wholeDigits, fractionBy, fractionDigits, signText as signOf, wholeText, fractionText, textOf, rawText, put, bufferAfter, writeOf, leftOf}
 use Rattle.decimal.specs.Digits.{whole-by}
 
 abbrev pub minus : ℕ → ℤ
@@ -165,7 +165,7 @@ pub record Buffers : Type 0 where
   pub frac-left : leftOf (pos 1) 16 17 (stars 20) ≡ stars 20
 
 pub buffers : Buffers
-unfolding bytes isWidth faultOf unless wholeBy wholeDigits fractionBy fractionDigits signOf wholeText fractionText textOf rawText put after writeOf leftOf
+unfolding bytes isWidth faultOf guarded wholeBy wholeDigits fractionBy fractionDigits signOf wholeText fractionText textOf rawText put bufferAfter writeOf leftOf
 buffers =
     record {
       exact = refl;

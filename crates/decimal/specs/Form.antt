@@ -13,7 +13,7 @@ use lib.ListN.{length}
 use borrow.Author.Tests.{eqb-true, eqb-false}
 use Rattle.grammar.specs.Meaning.{natFrom}
 use Rattle.grammar.specs.Naturals.{natOf, natFrom-snoc, natOf-cons, natOf-append}
-use Rattle.decimal.specs.Meaning.{byteOf, wholeDigits, fractionBy, fractionDigits, minus, wholeText, fractionText, textOf}
+use Rattle.decimal.specs.Meaning.{byteOf, wholeDigits, fractionBy, fractionDigits, signText, wholeText, fractionText, textOf}
 use Rattle.decimal.specs.Layout.{Ends}
 use Rattle.decimal.specs.Digits.{whole-last, whole-more, whole-ind, fraction-none, fraction-more, ends-start, ends-next, ends-none}
 
@@ -38,7 +38,7 @@ pointed [] = []
 pointed (d ∷ ds) = 46 ∷ map byteOf (d ∷ ds)
 
 unfoldable pub formText : Bool → List ℕ → List ℕ → List ℕ
-formText neg ws fs = minus neg ++ (map byteOf ws ++ pointed fs)
+formText neg ws fs = signText neg ++ (map byteOf ws ++ pointed fs)
 
 -- the digits of a text of the form; one with `-` is negative, so it is not 0
 pub record Form (neg : Bool) (ws fs : List ℕ) : Type 0 where
@@ -215,7 +215,7 @@ fraction-pointed m n k h = go (eqb n 0) refl k h
 
 pub text-form : (neg : Bool) (m f : ℕ) → textOf neg m f ≡ formText neg (wholeDigits (m / 2 ^ f)) (fractionDigits f (m % 2 ^ f))
 unfolding textOf formText wholeText fractionText fractionDigits
-text-form neg m f = ap (λ (t : List ℕ). minus neg ++ (map byteOf (wholeDigits (m / 2 ^ f)) ++ t)) (fraction-pointed (2 ^ f) (m % 2 ^ f) f (mod-lt m (pow-pos f)))
+text-form neg m f = ap (λ (t : List ℕ). signText neg ++ (map byteOf (wholeDigits (m / 2 ^ f)) ++ t)) (fraction-pointed (2 ^ f) (m % 2 ^ f) f (mod-lt m (pow-pos f)))
 
 pub digits-write : (m f : ℕ) → Writes (wholeDigits (m / 2 ^ f)) (fractionDigits f (m % 2 ^ f)) m f
 unfolding fractionDigits

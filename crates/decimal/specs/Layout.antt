@@ -7,7 +7,7 @@ use lib.Dec.{eqb}
 use lib.ListN.{length, take, drop}
 use Rattle.format.specs.declared.UnsignedAnswer.{UnsignedAnswer}
 use Rattle.format.specs.Meaning.{unsignedAnswer}
-use Rattle.decimal.specs.Meaning.{byteOf, fractionBy, put, after}
+use Rattle.decimal.specs.Meaning.{byteOf, fractionBy, put, bufferAfter}
 
 -- the place of the point, the place of the first digit after it, and how many places there are
 abbrev pub point : ℕ
@@ -44,4 +44,4 @@ abbrev pub putAnswer : List ℕ → List ℕ → UnsignedAnswer
 putAnswer t out = unsignedAnswer (put t out)
 
 abbrev pub putOver : List ℕ → List ℕ → List ℕ
-putOver t out = after t out (put t out)
+putOver t out = bufferAfter t out (put t out)

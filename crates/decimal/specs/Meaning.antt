@@ -31,8 +31,8 @@ unfoldable pub fractionDigits : ℕ → ℕ → List ℕ
 fractionDigits f n = fractionBy (2 ^ f) f n
 
 -- the parts as bytes: `-` is 45 and the point 46
-unfoldable pub minus : Bool → List ℕ
-minus neg = cond neg (45 ∷ []) []
+unfoldable pub signText : Bool → List ℕ
+signText neg = cond neg (45 ∷ []) []
 
 unfoldable pub wholeText : ℕ → List ℕ
 wholeText n = map byteOf (wholeDigits n)
@@ -42,7 +42,7 @@ fractionText f n = cond (eqb n 0) [] (46 ∷ map byteOf (fractionDigits f n))
 
 -- the text of a sign and a magnitude with F fraction bits: the whole part is magnitude / 2^F, the fraction is the rest over 2^F
 unfoldable pub textOf : Bool → ℕ → ℕ → List ℕ
-textOf neg m f = minus neg ++ (wholeText (m / 2 ^ f) ++ fractionText f (m % 2 ^ f))
+textOf neg m f = signText neg ++ (wholeText (m / 2 ^ f) ++ fractionText f (m % 2 ^ f))
 
 -- the text of a raw
 unfoldable pub rawText : ℤ → ℕ → List ℕ
@@ -53,13 +53,13 @@ rawText (negsuc n) f = textOf true (suc n) f
 unfoldable pub put : List ℕ → List ℕ → Outcome
 put t out = cond (leb (length t) (length out)) (done (pos (length t)) false) (refused 5)
 
-unfoldable pub after : List ℕ → List ℕ → Outcome → List ℕ
-after t out (done x flag) = t ++ drop (length t) out
-after t out (refused n) = out
+unfoldable pub bufferAfter : List ℕ → List ℕ → Outcome → List ℕ
+bufferAfter t out (done x flag) = t ++ drop (length t) out
+bufferAfter t out (refused n) = out
 
 -- The whole answer, and the buffer as it is left: "Every refusal has .. lent buffers .. unchanged".
 unfoldable pub writeOf : ℤ → ℕ → ℕ → List ℕ → Outcome
 writeOf raw w f out = unless (faultOf w f) (put (rawText raw f) out)
 
 unfoldable pub leftOf : ℤ → ℕ → ℕ → List ℕ → List ℕ
-leftOf raw w f out = after (rawText raw f) out (writeOf raw w f out)
+leftOf raw w f out = bufferAfter (rawText raw f) out (writeOf raw w f out)

@@ -21,21 +21,21 @@ use borrow.Author.Tests.{lt-ltb, ltb-true, ltb-false, leb-true, ne-eqb, eqb-true
 use Rattle.laws.specs.Nearest.{nearestEven, nearest-exact}
 use Rattle.format.specs.declared.Manner.{Manner}
 use Rattle.format.specs.declared.UnsignedAnswer.the-variants.{Done}
-use Rattle.format.specs.Meaning.{Sign, done, refused, faultOf, unless, settle, withSign, unsignedAnswer}
+use Rattle.format.specs.Meaning.{Sign, done, refused, faultOf, settle, withSign, unsignedAnswer, guarded}
 use Rattle.format.specs.Theorems.{InRange, limit, in-fits, settle-fits}
 use Rattle.format.specs.Fault.{fault-free, width-bounds}
 use Rattle.format.specs.Place.{fits-place}
 use Rattle.format.specs.Far.{limit-word}
 use Rattle.digits.specs.Meaning.{digitsOf}
-use Rattle.grammar.specs.Meaning.{digitOf, Written, Reading, number, unread, plainReading, num, den, rawOf, isRadix, readOf}
-use Rattle.grammar.specs.Automaton.{isDigit, Part, whole, fraction, Seen, nothing, sign, digit, at, Error, blank, onSign, onPoint, step, scan, ended, finish, plainScan, readingOf}
+use Rattle.grammar.specs.Meaning.{digitOf, Written, Reading, number, unread, plainReading, num, den, rawOf, isRadix, readOf, blank}
+use Rattle.grammar.specs.Automaton.{isDigit, Part, whole, fraction, Seen, nothing, sign, digit, at, Error, onSign, onPoint, step, scan, ended, finish, plainScan, readingOf}
 use Rattle.grammar.specs.Agrees.{plain-scanned}
 use Rattle.grammar.specs.Naturals.{natOf}
 use Rattle.grammar.specs.Class.{digit-ten}
 use Rattle.grammar.specs.Accepted.{scan-append}
-use Rattle.grammar.specs.Run.{valuesOf, values-digit, runMore, runLen, partOf, withDigits, seenAfter, scan-run}
+use Rattle.grammar.specs.Run.{digitValues, values-digit, runMore, runLen, partOf, withDigits, seenAfter, scan-run}
 use Rattle.grammar.specs.Theorems.{Taken, read-as}
-use Rattle.decimal.specs.Meaning.{byteOf, wholeDigits, fractionBy, fractionDigits, minus, wholeText, fractionText, textOf, rawText, put, after, writeOf, leftOf}
+use Rattle.decimal.specs.Meaning.{byteOf, wholeDigits, fractionBy, fractionDigits, signText, wholeText, fractionText, textOf, rawText, put, bufferAfter, writeOf, leftOf}
 use Rattle.decimal.specs.Promise.{WriteSigned}
 use Rattle.decimal.specs.Digits.{whole-last, whole-length, whole-text-length}
 use Rattle.decimal.specs.Form.{Digits, none, more, Leads, lone, first, Form, Writes, pointed, formText, text-form, digits-write, form-of, only}
@@ -58,8 +58,8 @@ fraction-text-length f n = go (eqb n 0) (fraction-length (2 ^ f) f n)
     go true h = omega arith
     go false h = omega (arith, h, length-map (fractionBy (2 ^ f) f n) byteOf)
 
-minus-length : (neg : Bool) → length (minus neg) ≤ 1
-unfolding minus
+minus-length : (neg : Bool) → length (signText neg) ≤ 1
+unfolding signText
 minus-length true = omega arith
 minus-length false = omega arith
 
@@ -77,13 +77,13 @@ pub text-length : (neg : Bool) (m f : ℕ) → m < 2 ^ 64 → f ≤ 64 → lengt
 unfolding textOf
 text-length neg m f h l = pick (ltb f 64) refl
   where
-    parts : length (minus neg ++ (wholeText (m / 2 ^ f) ++ fractionText f (m % 2 ^ f))) ≡ length (minus neg) + (length (wholeText (m / 2 ^ f)) + length (fractionText f (m % 2 ^ f)))
-    parts = length-append (minus neg) (wholeText (m / 2 ^ f) ++ fractionText f (m % 2 ^ f)) ∙ ap (λ (n : ℕ). length (minus neg) + n) (length-append (wholeText (m / 2 ^ f)) (fractionText f (m % 2 ^ f)))
+    parts : length (signText neg ++ (wholeText (m / 2 ^ f) ++ fractionText f (m % 2 ^ f))) ≡ length (signText neg) + (length (wholeText (m / 2 ^ f)) + length (fractionText f (m % 2 ^ f)))
+    parts = length-append (signText neg) (wholeText (m / 2 ^ f) ++ fractionText f (m % 2 ^ f)) ∙ ap (λ (n : ℕ). length (signText neg) + n) (length-append (wholeText (m / 2 ^ f)) (fractionText f (m % 2 ^ f)))
 
-    most : length (wholeText (m / 2 ^ f)) + f ≤ 65 → length (minus neg ++ (wholeText (m / 2 ^ f) ++ fractionText f (m % 2 ^ f))) ≤ 67
+    most : length (wholeText (m / 2 ^ f)) + f ≤ 65 → length (signText neg ++ (wholeText (m / 2 ^ f) ++ fractionText f (m % 2 ^ f))) ≤ 67
     most s = omega (arith, s, parts, minus-length neg, fraction-text-length f (m % 2 ^ f))
 
-    pick : (t : Bool) → ltb f 64 ≡ t → length (minus neg ++ (wholeText (m / 2 ^ f) ++ fractionText f (m % 2 ^ f))) ≤ 67
+    pick : (t : Bool) → ltb f 64 ≡ t → length (signText neg ++ (wholeText (m / 2 ^ f) ++ fractionText f (m % 2 ^ f))) ≤ 67
     pick true e = most (omega (arith, whole-part-length m f h (ltb-true f 64 e)))
     pick false e =
         let full : f ≡ 64 = omega (arith, ltb-false f 64 e) in
@@ -111,8 +111,8 @@ run-all : {d : ℕ} {ds : List ℕ} → Digits (d ∷ ds) → runLen false 10 (m
 unfolding runLen
 run-all (more h r) = rw (byte-digit h, run-more r)
 
-values : {ds : List ℕ} → Digits ds → valuesOf (map byteOf ds) ≡ ds
-unfolding valuesOf digitsOf
+values : {ds : List ℕ} → Digits ds → digitValues (map byteOf ds) ≡ ds
+unfolding digitValues digitsOf
 values none = refl
 values (more {d} {ds} h r) = values-digit (byteOf d) (map byteOf ds) (ne-eqb (byteOf d) 95 (omega arith)) ∙ ap₂ (λ (v : ℕ) (vs : List ℕ). v ∷ vs) (byte-value h) (values r)
 
@@ -124,8 +124,8 @@ scan-digits p {d} {ds} h q x =
     let n = suc (length ds) in
     let long : length t ≤ n = omega (arith, length-map (d ∷ ds) byteOf) in
     scan-run false 10 ten p t q x
-    ∙ ap (λ (k : ℕ). scan Error 10 (drop k t) (at (partOf p) (seenAfter k q) (withDigits p x (valuesOf (take k t))))) (run-all h)
-    ∙ ap₂ (λ (r s : List ℕ). scan Error 10 r (at (partOf p) digit (withDigits p x (valuesOf s)))) (drop-of-length-le t long) (take-all n t long)
+    ∙ ap (λ (k : ℕ). scan Error 10 (drop k t) (at (partOf p) (seenAfter k q) (withDigits p x (digitValues (take k t))))) (run-all h)
+    ∙ ap₂ (λ (r s : List ℕ). scan Error 10 r (at (partOf p) digit (withDigits p x (digitValues s)))) (drop-of-length-le t long) (take-all n t long)
     ∙ ap (λ (s : List ℕ). at (partOf p) digit (withDigits p x s)) (values h)
 
 -- what is read: the sign, all digits, and how many stand after the point
@@ -136,8 +136,8 @@ abbrev pub partFor : List ℕ → Part
 partFor [] = whole
 partFor (d ∷ ds) = fraction
 
-after-sign : (neg : Bool) (t : List ℕ) → (q : Seen) × (scan Error 10 (minus neg ++ t) (at whole nothing (blank false)) ≡ scan Error 10 t (at whole q (blank neg)))
-unfolding minus scan step onSign
+after-sign : (neg : Bool) (t : List ℕ) → (q : Seen) × (scan Error 10 (signText neg ++ t) (at whole nothing (blank false)) ≡ scan Error 10 t (at whole q (blank neg)))
+unfolding signText scan step onSign
 after-sign true t = (sign, refl)
 after-sign false t = (nothing, refl)
 
@@ -253,12 +253,12 @@ same-text f a b e = sym (raw-number a f) ∙ ap (λ (t : List ℕ). numberOf f (
 -- ---- From the promise of a writer alone: what it is done with is the text of the raw, and reading it gives the raw back.
 module _ (raw : ℤ) (w f : ℕ) (out left : List ℕ) (n : ℕ) (flag : Bool) where
   pub done-text : WriteSigned raw w f out (Done n flag) left → (faultOf w f ≡ 0) × (take n left ≡ rawText raw f)
-  unfolding writeOf leftOf put after unless unsignedAnswer
+  unfolding writeOf leftOf put bufferAfter guarded unsignedAnswer
   done-text p = go (eqb (faultOf w f) 0) refl (leb (length (rawText raw f)) (length out)) (p .0) (p .1)
     where
       go : (a : Bool) → eqb (faultOf w f) 0 ≡ a → (b : Bool)
           → Done n flag ≡ unsignedAnswer (cond a (cond b (done (pos (length (rawText raw f))) false) (refused 5)) (refused (faultOf w f)))
-          → left ≡ after (rawText raw f) out (cond a (cond b (done (pos (length (rawText raw f))) false) (refused 5)) (refused (faultOf w f)))
+          → left ≡ bufferAfter (rawText raw f) out (cond a (cond b (done (pos (length (rawText raw f))) false) (refused 5)) (refused (faultOf w f)))
           → (faultOf w f ≡ 0) × (take n left ≡ rawText raw f)
       go true e true r l =
           let size : n ≡ length (rawText raw f) = cc in

@@ -3,7 +3,7 @@ ghost use mathlib.Core.Path.{_≡_};
 ghost use mathlib.Core.List.{_++_};
 ghost use Prim.Native.Nat.{_+_, _-_, _≤_, _<_};
 ghost use lib.ListN.{length, drop};
-ghost use Rattle.decimal.specs.Meaning.{byteOf, minus, textOf};
+ghost use Rattle.decimal.specs.Meaning.{byteOf, signText, textOf};
 ghost use Rattle.decimal.specs.Layout.{places, Filled, putAnswer, putOver};
 use format::UnsignedAnswer;
 
@@ -62,7 +62,7 @@ fn fill(text: &mut [u8; PLACES], neg: bool, magnitude: u64, frac: u32) -> Span
 // `-` before the digits of a negative number.
 fn sign(text: &mut [u8; PLACES], neg: bool, at: usize) -> usize
     requires { ⌜ (0 < at) × (at < places) × (length (now text) ≡ places) ⌝ }
-    ensures { λ r. ⌜ (r + length (minus neg) ≡ at) × (drop r (now (text .exit)) ≡ minus neg ++ drop at (now (text .entry))) × (length (now (text .exit)) ≡ places) ⌝ }
+    ensures { λ r. ⌜ (r + length (signText neg) ≡ at) × (drop r (now (text .exit)) ≡ signText neg ++ drop at (now (text .entry))) × (length (now (text .exit)) ≡ places) ⌝ }
 {
     if neg {
         text[at - 1] = b'-';

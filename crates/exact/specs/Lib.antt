@@ -3,3 +3,4 @@ pub mod Refusals
 pub mod Settled
 pub mod Signs
 pub mod Theorems
+pub mod Unique

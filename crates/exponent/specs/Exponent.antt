@@ -7,8 +7,8 @@ use Prim.Native.Nat.{ℕ, _+_, _*_, _≤_, _<_}
 use native.Mathlib.Omega.{arith}
 use lib.Dec.{leb}
 use borrow.Author.Tests.{ltb-true, le-leb, lt-leb, leb-true}
-use Rattle.grammar.specs.Meaning.{digitOf, Written, expLimit}
-use Rattle.grammar.specs.Automaton.{isDigit, Part, exponent, Seen, digit, Scan, at, refuse, withExp, Sep, onExpDigit, step, scan, finish, onSign, onPoint, onUnderscore, onMark, onOther, readingOf}
+use Rattle.grammar.specs.Meaning.{digitOf, Written, expLimit, withExp}
+use Rattle.grammar.specs.Automaton.{isDigit, Part, exponent, Seen, digit, Scan, at, refuse, Sep, onExpDigit, step, scan, finish, onSign, onPoint, onUnderscore, onMark, onOther, readingOf}
 use Rattle.grammar.specs.Class.{classOf, ten-plain}
 use Rattle.grammar.specs.Run.{sepOf}
 use Rattle.grammar.specs.Reading.{reading, onClass, read-next, expSeen, expAt}

@@ -8,12 +8,12 @@ use native.Mathlib.Omega.{arith}
 use lib.IntN.{ℤ, pos}
 use lib.ListN.{length, take, getD, set, length-set}
 use lib.Seq.{take-suc, take-suc-set, take-all}
-use Rattle.filter.specs.Meaning.{mostTaps, next, outputOf, clipOf, bitOf, after, outputsOf, clipsOf, clipped}
+use Rattle.filter.specs.Meaning.{mostTaps, next, outputOf, clipOf, bitOf, historyAfter, outputsOf, clipsOf, clipped}
 use Rattle.filter.specs.Run.{after-one, outputs-one, clips-one, clipped-one, bit-le, next-length}
 
 -- the block is through
 pub record Through (taps history samples final outputs : List ℤ) (marks : List ℕ) (count : ℕ) : Type 0 where
-  pub final-is : final ≡ after history samples
+  pub final-is : final ≡ historyAfter history samples
   pub outputs-are : outputs ≡ outputsOf taps history samples
   pub marks-are : marks ≡ map bitOf (clipsOf taps history samples)
   pub count-is : count ≡ clipped (clipsOf taps history samples)
@@ -29,7 +29,7 @@ pub record SoFar (taps history samples : List ℤ) (i : ℕ) (line outputs : Lis
 
 pub start : (taps history samples outputs : List ℤ) (marks : List ℕ) → length history ≡ mostTaps → length outputs ≡ length samples → length marks ≡ length samples
     → SoFar taps history samples 0 history outputs marks 0
-unfolding after outputsOf clipsOf clipped
+unfolding historyAfter outputsOf clipsOf clipped
 start taps history samples outputs marks e f g =
     record {
       place = omega arith;
@@ -48,7 +48,7 @@ module _ (taps history samples : List ℤ) (i : ℕ) (line outputs : List ℤ) (
       let past = take i samples in
       let x = getD samples i (pos 0) in
       let whole : take (i + 1) samples ≡ past ++ x ∷ [] = rw add-one (take-suc samples i (pos 0) h) in
-      let now : line' ≡ next (after history past) x = rw (t .final-is) at l in
+      let now : line' ≡ next (historyAfter history past) x = rw (t .final-is) at l in
       record {
         place = omega arith;
         room = rw l (next-length line x (s .room));

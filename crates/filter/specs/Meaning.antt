@@ -1,14 +1,19 @@
 -- The filter over lists of integers: document 01, module 7. A history is a list of samples, newest first.
 -- Assumes nothing.
 use mathlib.Core.Bool.{Bool, true, false, cond, not}
-use mathlib.Core.List.{List, [], _∷_}
+use mathlib.Core.List.{List, [], _∷_, map}
 use Prim.Native.Nat.{ℕ, _+_, _^_}
 use lib.Dec.{leb, eqb}
 use lib.IntN.{ℤ, pos, _+ℤ_, _*ℤ_}
-use lib.ListN.{take, replicate}
+use lib.ListN.{length, take, replicate}
 use Rattle.laws.specs.Floor.{floor}
-use Rattle.format.specs.Meaning.{signed, fits, hold}
+use Rattle.format.specs.declared.SignedAnswer.{SignedAnswer}
+use Rattle.format.specs.declared.SignedAnswer.the-variants.{Done as DoneS, Refused as RefusedS}
+use Rattle.format.specs.declared.UnsignedAnswer.{UnsignedAnswer}
+use Rattle.format.specs.declared.UnsignedAnswer.the-variants.{Done as DoneU, Refused as RefusedU}
+use Rattle.format.specs.Meaning.{signed, fits, hold, guarded}
 use Rattle.filter.specs.declared.State.{State}
+use Rattle.filter.specs.declared.Stepped.{Stepped}
 
 -- "The state holds the last 64 samples"; "40: taps not 1 to 64"
 abbrev pub mostTaps : ℕ
@@ -58,9 +63,9 @@ unfoldable pub clipOf : List ℤ → List ℤ → Bool
 clipOf taps history = clips (levelOf taps history)
 
 -- A block of samples, oldest first: the history after it; an output and a clip flag for each.
-unfoldable pub after : List ℤ → List ℤ → List ℤ
-after history [] = history
-after history (x ∷ xs) = after (next history x) xs
+unfoldable pub historyAfter : List ℤ → List ℤ → List ℤ
+historyAfter history [] = history
+historyAfter history (x ∷ xs) = historyAfter (next history x) xs
 
 unfoldable pub outputsOf : List ℤ → List ℤ → List ℤ → List ℤ
 outputsOf taps history [] = []
@@ -77,7 +82,7 @@ pub record Run : Type 0 where
 
 unfoldable pub runOf : List ℤ → List ℤ → List ℤ → Run
 runOf taps history samples =
-    record { outputs = outputsOf taps history samples; flags = clipsOf taps history samples; final = after history samples }
+    record { outputs = outputsOf taps history samples; flags = clipsOf taps history samples; final = historyAfter history samples }
 
 -- a clip flag as a byte, and the number of outputs that clipped
 unfoldable pub bitOf : Bool → ℕ
@@ -94,3 +99,32 @@ tapsFault n = cond (eqb n 0) 40 (cond (leb n mostTaps) 0 40)
 
 unfoldable pub blockFault : ℕ → ℕ → ℕ → ℕ → ℕ
 blockFault n samples outputs clips = cond (eqb samples outputs) (cond (eqb samples clips) (tapsFault n) 5) 5
+
+-- What a call leaves. A step: the output with its clip flag; the state holds the new sample.
+abbrev pub stepped : SignedAnswer → List ℤ → Stepped
+stepped answer samples = record { answer = answer; state = stateOf samples }
+
+unfoldable pub stepOf : List ℤ → List ℤ → ℤ → Stepped
+stepOf taps before x =
+    guarded (tapsFault (length taps))
+    (λ n. stepped (RefusedS n) before)
+    (stepped (DoneS (outputOf taps (next before x)) (clipOf taps (next before x))) (next before x))
+
+-- A run: how many outputs clipped; the state, the outputs and their clip bytes.
+pub record Ran : Type 0 where
+  pub answer : UnsignedAnswer
+  pub state : State
+  pub outputs : List ℤ
+  pub marks : List ℕ
+
+abbrev pub ran : UnsignedAnswer → State → List ℤ → List ℕ → Ran
+ran answer state outputs marks = record { answer = answer; state = state; outputs = outputs; marks = marks }
+
+abbrev pub ranDone : Run → Ran
+ranDone r = ran (DoneU (clipped (r .flags)) false) (stateOf (r .final)) (r .outputs) (map bitOf (r .flags))
+
+unfoldable pub ranOf : List ℤ → State → List ℤ → List ℤ → List ℕ → Ran
+ranOf taps state samples outputs marks =
+    guarded (blockFault (length taps) (length samples) (length outputs) (length marks))
+    (λ n. ran (RefusedU n) state outputs marks)
+    (ranDone (runOf taps (history state) samples))

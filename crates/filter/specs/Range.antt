@@ -13,7 +13,7 @@ use Rattle.laws.specs.Signed.{signed as kit}
 use Rattle.laws.specs.Tests.{ltZ-true, ltZ-false}
 use Rattle.format.specs.Meaning.{signed, lowest, highest, fits}
 use Rattle.format.specs.Theorems.{InRange, fits-in, in-fits, unfit-iff, hold-in, hold-low, hold-high, hold-id}
-use Rattle.filter.specs.Meaning.{mostTaps, next, after, held, clips}
+use Rattle.filter.specs.Meaning.{mostTaps, next, historyAfter, held, clips}
 
 -- a raw of I1F15, and a list of them
 abbrev pub Sample : ℤ → Type 0
@@ -53,8 +53,8 @@ pub samples-next : (h : List ℤ) (x : ℤ) → Samples h → Sample x → Sampl
 unfolding next
 samples-next h x s k = samples-take mostTaps (x ∷ h) (more k s)
 
-pub samples-after : (h xs : List ℤ) → Samples h → Samples xs → Samples (after h xs)
-unfolding after
+pub samples-after : (h xs : List ℤ) → Samples h → Samples xs → Samples (historyAfter h xs)
+unfolding historyAfter
 samples-after h [] s k = s
 samples-after h (x ∷ xs) s (more a k) = samples-after (next h x) xs (samples-next h x s a) k
 

@@ -7,8 +7,8 @@ use Prim.Native.Nat.{ℕ, _≤_}
 use native.Mathlib.Omega.{arith}
 use lib.Dec.{eqb, leb}
 use borrow.Author.Tests.{ne-eqb, eqb-true, leb-true}
+use Rattle.format.specs.Meaning.{guarded}
 use Rattle.filter.specs.Meaning.{mostTaps, tapsFault, blockFault}
-use Rattle.filter.specs.Promise.{unless}
 
 -- ---- what is known where nothing is refused
 pub taps-few : (n : ℕ) → tapsFault n ≡ 0 → n ≤ mostTaps
@@ -42,17 +42,17 @@ block-fit n samples outputs clips h =
 
 -- ---- what a refusal leaves, and what is done without one: r is the number that the code has
 module _ {A : Type 0} (r fault : ℕ) (refused : ℕ → A) (done : A) (e : r ≡ fault) where
-  pub refuses : (r ≡ 0 → ⊥) → refused r ≡ unless fault refused done
-  unfolding unless
+  pub refuses : (r ≡ 0 → ⊥) → refused r ≡ guarded fault refused done
+  unfolding guarded
   refuses n = rw (← e, ne-eqb r 0 n)
 
-  pub goes-on : r ≡ 0 → done ≡ unless fault refused done
-  unfolding unless
+  pub goes-on : r ≡ 0 → done ≡ guarded fault refused done
+  unfolding guarded
   goes-on z = rw (← e, z)
 
 -- the other way: an outcome is what is done where nothing is refused, or what a refusal leaves
-pub which : {A : Type 0} (fault : ℕ) (refused : ℕ → A) (done : A) {r : A} → r ≡ unless fault refused done → ((fault ≡ 0) × (r ≡ done)) ⊎ (r ≡ refused fault)
-unfolding unless
+pub which : {A : Type 0} (fault : ℕ) (refused : ℕ → A) (done : A) {r : A} → r ≡ guarded fault refused done → ((fault ≡ 0) × (r ≡ done)) ⊎ (r ≡ refused fault)
+unfolding guarded
 which fault refused done {r} e = go (eqb fault 0) refl e
   where
     go : (t : Bool) → eqb fault 0 ≡ t → r ≡ cond t done (refused fault) → ((fault ≡ 0) × (r ≡ done)) ⊎ (r ≡ refused fault)

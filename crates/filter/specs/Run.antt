@@ -7,20 +7,20 @@ use native.Mathlib.Omega.{arith}
 use lib.IntN.{ℤ}
 use lib.ListN.{length, take, length-take}
 use lib.Seq.{take-take, take-all}
-use Rattle.filter.specs.Meaning.{mostTaps, next, outputOf, clipOf, after, outputsOf, clipsOf, bitOf, clipped}
+use Rattle.filter.specs.Meaning.{mostTaps, next, outputOf, clipOf, historyAfter, outputsOf, clipsOf, bitOf, clipped}
 
-pub after-append : (h xs ys : List ℤ) → after h (xs ++ ys) ≡ after (after h xs) ys
-unfolding after
+pub after-append : (h xs ys : List ℤ) → historyAfter h (xs ++ ys) ≡ historyAfter (historyAfter h xs) ys
+unfolding historyAfter
 after-append h [] ys = refl
 after-append h (x ∷ xs) ys = after-append (next h x) xs ys
 
-pub outputs-append : (taps h xs ys : List ℤ) → outputsOf taps h (xs ++ ys) ≡ outputsOf taps h xs ++ outputsOf taps (after h xs) ys
-unfolding after outputsOf
+pub outputs-append : (taps h xs ys : List ℤ) → outputsOf taps h (xs ++ ys) ≡ outputsOf taps h xs ++ outputsOf taps (historyAfter h xs) ys
+unfolding historyAfter outputsOf
 outputs-append taps h [] ys = refl
 outputs-append taps h (x ∷ xs) ys = rw (outputs-append taps (next h x) xs ys)
 
-pub clips-append : (taps h xs ys : List ℤ) → clipsOf taps h (xs ++ ys) ≡ clipsOf taps h xs ++ clipsOf taps (after h xs) ys
-unfolding after clipsOf
+pub clips-append : (taps h xs ys : List ℤ) → clipsOf taps h (xs ++ ys) ≡ clipsOf taps h xs ++ clipsOf taps (historyAfter h xs) ys
+unfolding historyAfter clipsOf
 clips-append taps h [] ys = refl
 clips-append taps h (x ∷ xs) ys = rw (clips-append taps (next h x) xs ys)
 
@@ -34,15 +34,15 @@ unfolding clipped
 clipped-one us b = omega (arith, clipped-append us (b ∷ []))
 
 -- one sample more
-pub after-one : (h xs : List ℤ) (x : ℤ) → after h (xs ++ x ∷ []) ≡ next (after h xs) x
-unfolding after
+pub after-one : (h xs : List ℤ) (x : ℤ) → historyAfter h (xs ++ x ∷ []) ≡ next (historyAfter h xs) x
+unfolding historyAfter
 after-one h xs x = after-append h xs (x ∷ [])
 
-pub outputs-one : (taps h xs : List ℤ) (x : ℤ) → outputsOf taps h (xs ++ x ∷ []) ≡ outputsOf taps h xs ++ outputOf taps (next (after h xs) x) ∷ []
+pub outputs-one : (taps h xs : List ℤ) (x : ℤ) → outputsOf taps h (xs ++ x ∷ []) ≡ outputsOf taps h xs ++ outputOf taps (next (historyAfter h xs) x) ∷ []
 unfolding outputsOf
 outputs-one taps h xs x = outputs-append taps h xs (x ∷ [])
 
-pub clips-one : (taps h xs : List ℤ) (x : ℤ) → clipsOf taps h (xs ++ x ∷ []) ≡ clipsOf taps h xs ++ clipOf taps (next (after h xs) x) ∷ []
+pub clips-one : (taps h xs : List ℤ) (x : ℤ) → clipsOf taps h (xs ++ x ∷ []) ≡ clipsOf taps h xs ++ clipOf taps (next (historyAfter h xs) x) ∷ []
 unfolding clipsOf
 clips-one taps h xs x = clips-append taps h xs (x ∷ [])
 
@@ -66,8 +66,8 @@ next-few : (h : List ℤ) (x : ℤ) → length (next h x) ≤ mostTaps
 unfolding next
 next-few h x = simp length-take (omega arith)
 
-pub after-is : (h xs : List ℤ) → length h ≤ mostTaps → after h xs ≡ take mostTaps (reverse xs ++ h)
-unfolding after next
+pub after-is : (h xs : List ℤ) → length h ≤ mostTaps → historyAfter h xs ≡ take mostTaps (reverse xs ++ h)
+unfolding historyAfter next
 after-is h [] e = sym (take-all mostTaps h e)
 after-is h (x ∷ xs) e =
     after-is (next h x) xs (next-few h x)

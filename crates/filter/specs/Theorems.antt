@@ -11,10 +11,9 @@ use mir.Syntax.{w64}
 use mir.Val.{SFits}
 use Rattle.laws.specs.Bound.{abs-add-le, abs-sfits, sfits-mul}
 use Rattle.format.specs.declared.SignedAnswer.the-variants.{Done}
-use Rattle.format.specs.Meaning.{valueS, flagS}
+use Rattle.format.specs.Meaning.{valueS, flagS, guarded}
 use Rattle.filter.specs.declared.Stepped.{Stepped}
-use Rattle.filter.specs.Meaning.{mostTaps, history, next, sumOf, rounded, held, clips, levelOf, outputOf, clipOf, after, outputsOf, clipsOf, Run, runOf, tapsFault}
-use Rattle.filter.specs.Promise.{unless, stepped, stepOf}
+use Rattle.filter.specs.Meaning.{mostTaps, history, next, sumOf, rounded, held, clips, levelOf, outputOf, clipOf, historyAfter, outputsOf, clipsOf, Run, runOf, tapsFault, stepped, stepOf}
 use Rattle.filter.specs.Range.{Sample, Samples, more, sample-sfits, sample-keeps, unclipped, held-sample}
 use Rattle.filter.specs.Rounding.{rounded-near}
 use Rattle.filter.specs.Run.{after-append, outputs-append, clips-append, after-is}
@@ -67,11 +66,11 @@ inTurn taps h [] = record { outputs = []; flags = []; final = h }
 inTurn taps h (x ∷ xs) = front (stepOf taps h x) (inTurn taps (history (stepOf taps h x .state)) xs)
 
 step-is : (taps h : List ℤ) (x : ℤ) → tapsFault (length taps) ≡ 0 → stepOf taps h x ≡ stepped (Done (outputOf taps (next h x)) (clipOf taps (next h x))) (next h x)
-unfolding stepOf unless
+unfolding stepOf guarded
 step-is taps h x f = rw f
 
 pub run-in-turn : (taps h xs : List ℤ) → tapsFault (length taps) ≡ 0 → runOf taps h xs ≡ inTurn taps h xs
-unfolding runOf outputsOf clipsOf after inTurn valueS flagS
+unfolding runOf outputsOf clipsOf historyAfter inTurn valueS flagS
 run-in-turn taps h [] f = refl
 run-in-turn taps h (x ∷ xs) f = rw (step-is taps h x f, ← run-in-turn taps (next h x) xs f)
 

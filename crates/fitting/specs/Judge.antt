@@ -26,25 +26,25 @@ judged-is n [] = refl
 judged-is n (v ∷ vs) = rw (judged-is n vs)
 
 -- the first n places of each, and of these what stands from place i on
-abbrev pub leftOf : ℕ → List ℕ → List ℕ → ℕ → FileAnswer
-leftOf n lines answers i = judgedOf n (drop i (take n lines)) (drop i (take n answers))
+abbrev pub judgedFrom : ℕ → List ℕ → List ℕ → ℕ → FileAnswer
+judgedFrom n lines answers i = judgedOf n (drop i (take n lines)) (drop i (take n answers))
 
 module _ (n : ℕ) (lines answers : List ℕ) (room : n ≤ length lines) (room' : n ≤ length answers) (i : ℕ) where
-  left-cons : i < n → leftOf n lines answers i ≡ judgedOf n (getD lines i 0 ∷ drop (suc i) (take n lines)) (getD answers i 0 ∷ drop (suc i) (take n answers))
+  left-cons : i < n → judgedFrom n lines answers i ≡ judgedOf n (getD lines i 0 ∷ drop (suc i) (take n lines)) (getD answers i 0 ∷ drop (suc i) (take n answers))
   left-cons h =
       let a : i < length (take n lines) = rw length-take (omega arith) in
       let b : i < length (take n answers) = rw length-take (omega arith) in
       rw (drop-cons (take n lines) i 0 a, drop-cons (take n answers) i 0 b, getD-take n lines i 0 h, getD-take n answers i 0 h)
 
-  pub left-here : i < n → (getD answers i 0 ≡ 0 → ⊥) → Line (getD lines i 0) (getD answers i 0) ≡ leftOf n lines answers i
+  pub left-here : i < n → (getD answers i 0 ≡ 0 → ⊥) → Line (getD lines i 0) (getD answers i 0) ≡ judgedFrom n lines answers i
   unfolding judgedOf
   left-here h ne = sym (left-cons h ∙ rw (ne-eqb (getD answers i 0) 0 ne))
 
-  pub left-next : i < n → getD answers i 0 ≡ 0 → leftOf n lines answers (i + 1) ≡ leftOf n lines answers i
+  pub left-next : i < n → getD answers i 0 ≡ 0 → judgedFrom n lines answers (i + 1) ≡ judgedFrom n lines answers i
   unfolding judgedOf
   left-next h e = sym (left-cons h ∙ rw (eq-eqb (getD answers i 0) 0 e, add-one i))
 
-  pub left-none : n ≤ i → Done n ≡ leftOf n lines answers i
+  pub left-none : n ≤ i → Done n ≡ judgedFrom n lines answers i
   unfolding judgedOf
   left-none h =
       let b : length (take n answers) ≤ i = rw length-take (omega arith) in

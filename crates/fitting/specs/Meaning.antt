@@ -1,11 +1,13 @@
 -- The fitting file over its value lines: document 01, module 9. Assumes nothing.
 use mathlib.Core.Bool.{Bool, true, false, cond}
-use mathlib.Core.List.{List, [], _∷_}
+use mathlib.Core.List.{List, [], _∷_, map}
 use Prim.Native.Nat.{ℕ}
 use lib.Dec.{leb, eqb}
+use lib.IntN.{ℤ}
 use lib.ListN.{length}
+use Rattle.format.specs.Meaning.{guarded}
 use Rattle.filter.specs.Meaning.{mostTaps}
-use Rattle.value_lines.specs.Meaning.{fileLimit, ValueLine, numberAt}
+use Rattle.value_lines.specs.Meaning.{fileLimit, ValueLine, valuesOf, lineNumber, rawAt, numberAt, over}
 use Rattle.fitting.specs.declared.FileAnswer.{FileAnswer}
 use Rattle.fitting.specs.declared.FileAnswer.the-variants.{Done, Refused, Line}
 
@@ -14,8 +16,8 @@ unfoldable pub judge : ℕ → List ValueLine → FileAnswer
 judge n [] = Done n
 judge n (v ∷ vs) = cond (eqb (numberAt v) 0) (judge n vs) (Line (v .number) (numberAt v))
 
-abbrev pub verdictOf : List ValueLine → FileAnswer
-verdictOf vs = judge (length vs) vs
+abbrev pub judgeAll : List ValueLine → FileAnswer
+judgeAll vs = judge (length vs) vs
 
 -- "the taps if none is refused"
 unfoldable pub accepted : List ValueLine → Bool
@@ -57,3 +59,27 @@ unfoldable pub innerF : FileAnswer → ℕ
 innerF (Done n) = 0
 innerF (Refused n) = 0
 innerF (Line line inner) = inner
+
+-- ---- What the call leaves: the answer, and the four lent slices
+pub record Fitted : Type 0 where
+  pub answer : FileAnswer
+  pub lines : List ℕ
+  pub raws : List ℤ
+  pub answers : List ℕ
+  pub taps : List ℤ
+
+abbrev pub fitted : FileAnswer → List ℕ → List ℤ → List ℕ → List ℤ → Fitted
+fitted answer lines raws answers taps = record { answer = answer; lines = lines; raws = raws; answers = answers; taps = taps }
+
+-- the list is written, "and the taps if none is refused"
+abbrev pub listed : List ValueLine → List ℕ → List ℤ → List ℕ → List ℤ → Fitted
+listed vs lines raws answers taps =
+    fitted (judgeAll vs) (over (map lineNumber vs) lines) (over (map rawAt vs) raws) (over (map numberAt vs) answers)
+    (cond (accepted vs) (over (map rawAt vs) taps) taps)
+
+-- what is refused, or the list
+unfoldable pub fittedOf : List ℕ → List ℕ → List ℤ → List ℕ → List ℤ → Fitted
+fittedOf file lines raws answers taps =
+    guarded (fileFault (length file) (length (valuesOf file)) (length lines) (length raws) (length answers) (length taps))
+    (λ n. fitted (Refused n) lines raws answers taps)
+    (listed (valuesOf file) lines raws answers taps)

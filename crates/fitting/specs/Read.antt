@@ -9,14 +9,13 @@ use lib.Dec.{eqb}
 use lib.IntN.{ℤ}
 use lib.ListN.{length, take, drop, length-map, length-append}
 use lib.Seq.{take-at}
-use Rattle.filter.specs.Promise.{unless}
+use Rattle.format.specs.Meaning.{guarded}
 use Rattle.filter.specs.Refuse.{which}
 use Rattle.value_lines.specs.Meaning.{ValueLine, valuesOf, lineNumber, rawAt, numberAt, over}
-use Rattle.value_lines.specs.Store.{Stored}
+use Rattle.value_lines.specs.Store.{AllEntered}
 use Rattle.fitting.specs.declared.FileAnswer.{FileAnswer}
 use Rattle.fitting.specs.declared.FileAnswer.the-variants.{Done, Refused, Line}
-use Rattle.fitting.specs.Meaning.{judge, accepted, fileFault}
-use Rattle.fitting.specs.Promise.{fitted, listed, roomyOf}
+use Rattle.fitting.specs.Meaning.{judge, accepted, fileFault, Fitted, fitted, listed}
 use Rattle.fitting.specs.Room.{checkedOf, Room, fault-none}
 use Rattle.fitting.specs.Judge.{judgedOf, judged-is}
 
@@ -64,6 +63,14 @@ accepted-and n m vs h = go (accepted vs) refl
     go true e = refl
     go false e = absurd (judge-not n vs e m h)
 
+-- ---- what the call leaves where a caller has a, b and c places for the three parts of the list, whatever it lends for them: `fittedOf` where these are
+-- their lengths
+unfoldable pub roomyOf : ℕ → ℕ → ℕ → List ℕ → List ℕ → List ℤ → List ℕ → List ℤ → Fitted
+roomyOf a b c file lines raws answers taps =
+    guarded (fileFault (length file) (length (valuesOf file)) a b c (length taps))
+    (λ n. fitted (Refused n) lines raws answers taps)
+    (listed (valuesOf file) lines raws answers taps)
+
 -- ---- the three ways out
 module _ (a b c : ℕ) (file lines : List ℕ) (raws : List ℤ) (answers : List ℕ) (taps : List ℤ) where
   abbrev fault : ℕ
@@ -71,7 +78,7 @@ module _ (a b c : ℕ) (file lines : List ℕ) (raws : List ℤ) (answers : List
 
   pub refused-first : {r : FileAnswer} → r ≡ checkedOf file a b c (length taps) → NotDone r
       → fitted r lines raws answers taps ≡ roomyOf a b c file lines raws answers taps
-  unfolding checkedOf roomyOf unless
+  unfolding checkedOf roomyOf guarded
   refused-first {r} e h = go (eqb fault 0) e
     where
       go : (b : Bool) → r ≡ cond b (Done (length (valuesOf file))) (Refused fault)
@@ -95,7 +102,7 @@ module _ (a b c : ℕ) (file lines : List ℕ) (raws : List ℤ) (answers : List
           record { none = h .0; count = cc; room = fault-none (length file) (length (valuesOf file)) a b c (length taps) (h .0) }
       go (inr h) = let z : _≡_ {A = ℕ} 0 1 = cc in absurd (omega arith)
 
-  module _ {n : ℕ} {l : List ℕ} {r : List ℤ} {w : List ℕ} {answer : FileAnswer} (known : Checked n) (stored : Stored (valuesOf file) lines raws answers l r w)
+  module _ {n : ℕ} {l : List ℕ} {r : List ℤ} {w : List ℕ} {answer : FileAnswer} (known : Checked n) (stored : AllEntered (valuesOf file) lines raws answers l r w)
       (judged : answer ≡ judgedOf n (take n l) (take n w)) where
     abbrev vs : List ValueLine
     vs = valuesOf file
@@ -107,7 +114,7 @@ module _ (a b c : ℕ) (file lines : List ℕ) (raws : List ℤ) (answers : List
         judged ∙ rw (first, second, known .count) (judged-is (length vs) vs)
 
     closed : {t : List ℤ} → t ≡ cond (accepted vs) (over (map rawAt vs) taps) taps → fitted answer l r w t ≡ roomyOf a b c file lines raws answers taps
-    unfolding roomyOf unless
+    unfolding roomyOf guarded
     closed e = rw (says, stored .lines-are, stored .raws-are, stored .answers-are, e, known .none)
 
     pub refused-line : NotDone answer → fitted answer l r w taps ≡ roomyOf a b c file lines raws answers taps

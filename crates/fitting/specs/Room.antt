@@ -7,8 +7,8 @@ use native.Mathlib.Omega.{arith}
 use lib.Dec.{eqb, leb}
 use lib.ListN.{length}
 use borrow.Author.Tests.{eq-eqb, ne-eqb, le-leb, lt-leb, eqb-true, leb-true}
+use Rattle.format.specs.Meaning.{guarded}
 use Rattle.filter.specs.Meaning.{mostTaps}
-use Rattle.filter.specs.Promise.{unless}
 use Rattle.value_lines.specs.Meaning.{fileLimit, valuesOf}
 use Rattle.fitting.specs.declared.FileAnswer.{FileAnswer}
 use Rattle.fitting.specs.declared.FileAnswer.the-variants.{Done, Refused}
@@ -17,26 +17,26 @@ use Rattle.fitting.specs.Meaning.{roomFault, fileFault}
 -- the number of values, or the refusal
 unfoldable pub checkedOf : List ℕ → ℕ → ℕ → ℕ → ℕ → FileAnswer
 checkedOf file lines raws answers taps =
-    unless (fileFault (length file) (length (valuesOf file)) lines raws answers taps) (λ n. Refused n) (Done (length (valuesOf file)))
+    guarded (fileFault (length file) (length (valuesOf file)) lines raws answers taps) (λ n. Refused n) (Done (length (valuesOf file)))
 
 -- ---- each way out
 module _ (file : List ℕ) (lines raws answers taps : ℕ) where
   pub checked-long : fileLimit < length file → Refused 4 ≡ checkedOf file lines raws answers taps
-  unfolding checkedOf fileFault unless
+  unfolding checkedOf fileFault guarded
   checked-long h = rw (lt-leb (length file) fileLimit h)
 
   module _ {n : ℕ} (short : length file ≤ fileLimit) (is : n ≡ length (valuesOf file)) where
     pub checked-many : mostTaps < n → Refused 41 ≡ checkedOf file lines raws answers taps
-    unfolding checkedOf fileFault unless
+    unfolding checkedOf fileFault guarded
     checked-many h = rw (le-leb (length file) fileLimit short, ← is, lt-leb n mostTaps h)
 
     module _ {fault : ℕ} (few : n ≤ mostTaps) (said : fault ≡ roomFault n lines raws answers taps) where
       pub checked-room : (fault ≡ 0 → ⊥) → Refused fault ≡ checkedOf file lines raws answers taps
-      unfolding checkedOf fileFault unless
+      unfolding checkedOf fileFault guarded
       checked-room h = rw (le-leb (length file) fileLimit short, ← is, le-leb n mostTaps few, ← said, ne-eqb fault 0 h)
 
       pub checked-fine : fault ≡ 0 → Done n ≡ checkedOf file lines raws answers taps
-      unfolding checkedOf fileFault unless
+      unfolding checkedOf fileFault guarded
       checked-fine h = rw (le-leb (length file) fileLimit short, ← is, le-leb n mostTaps few, ← said, eq-eqb fault 0 h)
 
 -- ---- what is known where nothing is refused

@@ -9,20 +9,19 @@ use lib.Dec.{eqb}
 use lib.IntN.{ℤ, pos}
 use lib.ListN.{length, drop, getD, set, length-set, length-map, List·getD-append, List·getD-map}
 use borrow.Author.Tests.{eqb-true}
+use Rattle.format.specs.Meaning.{guarded}
 use Rattle.filter.specs.Meaning.{mostTaps}
-use Rattle.filter.specs.Promise.{unless}
 use Rattle.value_lines.specs.Held.{Held, held-none, held-more, held-all}
 use Rattle.value_lines.specs.Meaning.{ValueLine, valueLine, valuesOf, lineNumber, rawAt, numberAt, over}
 use Rattle.fitting.specs.declared.FileAnswer.{FileAnswer}
 use Rattle.fitting.specs.declared.FileAnswer.the-variants.{Refused}
-use Rattle.fitting.specs.Meaning.{verdictOf, accepted, fileFault}
-use Rattle.fitting.specs.Promise.{Fitted, fitted, listed, roomyOf}
+use Rattle.fitting.specs.Meaning.{judgeAll, accepted, fileFault, Fitted, fitted, listed}
+use Rattle.fitting.specs.Read.{roomyOf}
 use Rattle.fitting.specs.Room.{fault-none}
 use Rattle.fitting_list.specs.declared.Entry.{Entry}
 use Rattle.fitting_list.specs.declared.Found.{Found}
-use Rattle.fitting_list.specs.Meaning.{entryOf}
-use Rattle.fitting_list.specs.Promise.{records, recordsOf}
-use Rattle.fitting_list.specs.Records.{countOf, zeros, signed-zeros, FoundIs, entryAt}
+use Rattle.fitting_list.specs.Meaning.{entryOf, records, recordsOf}
+use Rattle.fitting_list.specs.Records.{countOf, zero-places, signed-zeros, FoundIs, entryAt}
 
 abbrev faultAt : List ℕ → ℕ → ℕ → ℕ
 faultAt file room taps = fileFault (length file) (length (valuesOf file)) room room room taps
@@ -47,7 +46,7 @@ filled-next f xs n = ap (filled f xs) (add-one n)
 
 -- how far it goes
 pub count-small : (file : List ℕ) (room taps : ℕ) → (countOf file room taps ≤ mostTaps) × (countOf file room taps ≤ room)
-unfolding countOf unless
+unfolding countOf guarded
 count-small file room taps = go (eqb (faultAt file room taps) 0) refl
   where
     go : (b : Bool) → eqb (faultAt file room taps) 0 ≡ b → (cond b (length (valuesOf file)) 0 ≤ mostTaps) × (cond b (length (valuesOf file)) 0 ≤ room)
@@ -70,13 +69,13 @@ over-at f vs old i d h =
     let there : i < length (map f vs) = rw (length-map vs f) h in
     List·getD-append (map f vs) (drop (length (map f vs)) old) d i there ∙ any-default (map f vs) i d (f blank) there ∙ List·getD-map f vs i blank
 
-module _ (vs : List ValueLine) (f : Found) (lines-are : f .lines ≡ over (map lineNumber vs) zeros) (raws-are : f .raws ≡ over (map rawAt vs) signed-zeros)
-    (answers-are : f .answers ≡ over (map numberAt vs) zeros) where
+module _ (vs : List ValueLine) (f : Found) (lines-are : f .lines ≡ over (map lineNumber vs) zero-places) (raws-are : f .raws ≡ over (map rawAt vs) signed-zeros)
+    (answers-are : f .answers ≡ over (map numberAt vs) zero-places) where
   picked : (i : ℕ) → i < length vs → entryAt f i ≡ entryOf (getD vs i blank)
   picked i h =
-      let a = ap (λ (l : List ℕ). getD l i 0) lines-are ∙ over-at lineNumber vs zeros i 0 h in
+      let a = ap (λ (l : List ℕ). getD l i 0) lines-are ∙ over-at lineNumber vs zero-places i 0 h in
       let b = ap (λ (l : List ℤ). getD l i (pos 0)) raws-are ∙ over-at rawAt vs signed-zeros i (pos 0) h in
-      let c = ap (λ (l : List ℕ). getD l i 0) answers-are ∙ over-at numberAt vs zeros i 0 h in
+      let c = ap (λ (l : List ℕ). getD l i 0) answers-are ∙ over-at numberAt vs zero-places i 0 h in
       rw (a, b, c)
 
   stored : (xs : List Entry) (n : ℕ) → n ≤ length vs → length vs ≤ length xs → Held (map entryOf vs) n xs (filled f xs n)
@@ -96,15 +95,15 @@ same-records p q r = rw (p, q, r)
 
 pub handed : (file : List ℕ) (xs : List Entry) (taps : List ℤ) (f : Found) (last : List ℤ) → FoundIs file (length xs) taps f last
     → records (f .outcome) (filled f xs (f .n)) last ≡ recordsOf file xs taps
-unfolding recordsOf roomyOf countOf unless
+unfolding recordsOf roomyOf countOf guarded
 handed file xs taps f last is = go (eqb (faultAt file (length xs) (length taps)) 0) refl (is .lists) (is .count)
   where
     go : (b : Bool) → eqb (faultAt file (length xs) (length taps)) 0 ≡ b
         → fitted (f .outcome) (f .lines) (f .raws) (f .answers) last
-        ≡ cond b (listed (valuesOf file) zeros signed-zeros zeros taps) (fitted (Refused (faultAt file (length xs) (length taps))) zeros signed-zeros zeros taps)
+        ≡ cond b (listed (valuesOf file) zero-places signed-zeros zero-places taps) (fitted (Refused (faultAt file (length xs) (length taps))) zero-places signed-zeros zero-places taps)
         → f .n ≡ cond b (length (valuesOf file)) 0
         → records (f .outcome) (filled f xs (f .n)) last
-        ≡ cond b (records (verdictOf (valuesOf file)) (over (map entryOf (valuesOf file)) xs) (cond (accepted (valuesOf file)) (over (map rawAt (valuesOf file)) taps) taps))
+        ≡ cond b (records (judgeAll (valuesOf file)) (over (map entryOf (valuesOf file)) xs) (cond (accepted (valuesOf file)) (over (map rawAt (valuesOf file)) taps) taps))
         (records (Refused (faultAt file (length xs) (length taps))) xs taps)
     go true e l c =
         let vs = valuesOf file in

@@ -6,28 +6,27 @@ use Prim.Native.Nat.{ℕ}
 use lib.Dec.{eqb}
 use lib.IntN.{ℤ, pos}
 use lib.ListN.{length, getD, replicate}
+use Rattle.format.specs.Meaning.{guarded}
 use Rattle.filter.specs.Meaning.{mostTaps}
-use Rattle.filter.specs.Promise.{unless}
 use Rattle.value_lines.specs.Meaning.{valuesOf}
-use Rattle.fitting.specs.Meaning.{fileFault}
+use Rattle.fitting.specs.Meaning.{fileFault, fitted}
 use Rattle.fitting.specs.declared.FileAnswer.{FileAnswer}
 use Rattle.fitting.specs.declared.FileAnswer.the-variants.{Done, Refused}
-use Rattle.fitting.specs.Promise.{fitted, roomyOf}
-use Rattle.fitting.specs.Read.{NotDone}
+use Rattle.fitting.specs.Read.{NotDone, roomyOf}
 use Rattle.fitting.specs.Room.{checkedOf}
 use Rattle.fitting_list.specs.declared.Entry.{Entry}
 use Rattle.fitting_list.specs.declared.Found.{Found}
 
 -- how many entries are found: none with a refusal but 42
 unfoldable pub countOf : List ℕ → ℕ → ℕ → ℕ
-countOf file room taps = unless (fileFault (length file) (length (valuesOf file)) room room room taps) (λ n. 0) (length (valuesOf file))
+countOf file room taps = guarded (fileFault (length file) (length (valuesOf file)) room room room taps) (λ n. 0) (length (valuesOf file))
 
 module _ (file : List ℕ) (room taps : ℕ) where
   abbrev fault : ℕ
   fault = fileFault (length file) (length (valuesOf file)) room room room taps
 
   pub count-none : {r : FileAnswer} → r ≡ checkedOf file room room room taps → NotDone r → 0 ≡ countOf file room taps
-  unfolding checkedOf countOf unless
+  unfolding checkedOf countOf guarded
   count-none {r} e h = go (eqb fault 0) e
     where
       go : (b : Bool) → r ≡ cond b (Done (length (valuesOf file))) (Refused fault) → 0 ≡ cond b (length (valuesOf file)) 0
@@ -35,18 +34,18 @@ module _ (file : List ℕ) (room taps : ℕ) where
       go false e = refl
 
   pub count-some : {n : ℕ} → n ≡ length (valuesOf file) → fault ≡ 0 → n ≡ countOf file room taps
-  unfolding countOf unless
+  unfolding countOf guarded
   count-some e z = e ∙ rw z
 
-abbrev pub zeros : List ℕ
-zeros = replicate mostTaps 0
+abbrev pub zero-places : List ℕ
+zero-places = replicate mostTaps 0
 
 abbrev pub signed-zeros : List ℤ
 signed-zeros = replicate mostTaps (pos 0)
 
--- the arrays start as zeros
+-- the arrays start as zero-places
 pub record FoundIs (file : List ℕ) (room : ℕ) (taps : List ℤ) (r : Found) (taps' : List ℤ) : Type 0 where
-  pub lists : fitted (r .outcome) (r .lines) (r .raws) (r .answers) taps' ≡ roomyOf room room room file zeros signed-zeros zeros taps
+  pub lists : fitted (r .outcome) (r .lines) (r .raws) (r .answers) taps' ≡ roomyOf room room room file zero-places signed-zeros zero-places taps
   pub count : r .n ≡ countOf file room (length taps)
 
 -- the entry at place i

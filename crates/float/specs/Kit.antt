@@ -11,7 +11,7 @@ use lib.Ieee.{Float, inf, fin, Format, up, down, odd, ofBits}
 use lib.Ieee.{nan as notNumber, binary32 as kit32, binary64 as kit64, ofFields as kitFields}
 use lib.Ieee.Digits.{odd-val}
 use borrow.Author.Tests.{ne-eqb}
-use Rattle.float.specs.Meaning.{Binary, binary32, binary64, least, Value, nan, infinite, finite, ofFields, valueOf}
+use Rattle.float.specs.Meaning.{Binary, binary32, binary64, least, Value, nan, infinite, finite, ofFields, patternValue}
 
 abbrev pub ofKit : Format → Binary
 ofKit kit32 = binary32
@@ -57,8 +57,8 @@ fields-agree kit64 s zero t = low-agrees binary64 53 s t
 fields-agree kit64 s (suc x) t = rw (not-zero x, before x) (high-agrees binary64 53 (2 ^ 52) (2 ^ 11 - 1) s x t)
 
 -- ---- a pattern
-pub pattern-agrees : (f : Format) (x : ℕ) → Agrees (ofKit f) (ofBits f x) (valueOf (ofKit f) x)
-unfolding ofBits valueOf
+pub pattern-agrees : (f : Format) (x : ℕ) → Agrees (ofKit f) (ofBits f x) (patternValue (ofKit f) x)
+unfolding ofBits patternValue
 pattern-agrees kit32 x =
     let e : x % 2 ^ 31 / 2 ^ 23 ≡ x / 2 ^ 23 % 2 ^ 8 = omega arith in
     subst (λ (n : ℕ). Agrees binary32 (kitFields kit32 (leb (2 ^ 31) x) (x % 2 ^ 31 / 2 ^ 23) (x % 2 ^ 23)) (ofFields binary32 (leb (2 ^ 31) x) n (x % 2 ^ 23))) e

@@ -48,9 +48,9 @@ steps b e t = cond (eqb e 0) t ((2 ^ (b .precision - 1) + t) * 2 ^ (e - 1))
 unfoldable pub ofFields : Binary → Bool → ℕ → ℕ → Value
 ofFields b neg e t = cond (eqb e (2 ^ b .field - 1)) (cond (eqb t 0) (infinite neg) nan) (finite neg (steps b e t))
 
-unfoldable pub valueOf : Binary → ℕ → Value
-valueOf b x = ofFields b (negative b x) (biased b x) (trailing b x)
+unfoldable pub patternValue : Binary → ℕ → Value
+patternValue b x = ofFields b (negative b x) (biased b x) (trailing b x)
 
 -- ---- in a format: the magnitude x 2^F, "nearest, ties to even"
-unfoldable pub rawOf : Binary → ℕ → ℕ → ℕ
-rawOf b f n = nearestEven (n * 2 ^ f) (2 ^ least b)
+unfoldable pub rawOfSteps : Binary → ℕ → ℕ → ℕ
+rawOfSteps b f n = nearestEven (n * 2 ^ f) (2 ^ least b)

@@ -9,7 +9,7 @@ use lib.Pow.{pow-add, pow-mono}
 use borrow.Author.Tests.{eqb-true, eq-eqb, ne-eqb}
 use Rattle.laws.specs.Nearest.{nearestEven}
 use Rattle.wide.specs.declared.Wide.{Wide}
-use Rattle.float.specs.Meaning.{Binary, least, biased, trailing, steps, rawOf}
+use Rattle.float.specs.Meaning.{Binary, least, biased, trailing, steps, rawOfSteps}
 use Rattle.float.specs.Folds.{Folds}
 
 abbrev pub binary : ℕ → ℕ → Binary
@@ -24,7 +24,7 @@ pub record Small (p w : ℕ) : Type 0 where
 
 -- ---- the magnitude
 unfoldable pub magnitudeOf : Binary → ℕ → ℕ → ℕ
-magnitudeOf b f x = cond (eqb (biased b x) (2 ^ b .field - 1)) (2 ^ 64) (rawOf b f (steps b (biased b x) (trailing b x)))
+magnitudeOf b f x = cond (eqb (biased b x) (2 ^ b .field - 1)) (2 ^ 64) (rawOfSteps b f (steps b (biased b x) (trailing b x)))
 
 -- ---- one law for each way out of the tests, e and l what the code finds of the pattern
 module _ (b : Binary) (x : ℕ) {e l : ℕ} (exponent : e ≡ biased b x) (end : l ≡ 2 ^ b .field - 1) where
@@ -65,7 +65,7 @@ steps-as b e t {m} q = go (eqb e 0) refl q
 
 pub folds-finite : (b : Binary) (x f : ℕ) {e t l m u d : ℕ} {r : Wide} → e ≡ biased b x → t ≡ trailing b x → l ≡ 2 ^ b .field - 1 → (e ≡ l → ⊥)
     → Significand (b .precision) e t m → u ≡ e - 1 → d ≡ least b → Folds (nearestEven (m * 2 ^ (f + u)) (2 ^ d)) r → Folds (magnitudeOf b f x) r
-unfolding magnitudeOf rawOf
+unfolding magnitudeOf rawOfSteps
 folds-finite b x f {e} {t} {l} {m} {u} {d} {r} exponent digits end h sig q p folds =
     let powers : m * 2 ^ (f + u) ≡ steps b e t * 2 ^ f = rw (pow-add 2 f u, q, steps-as b e t (sig .same)) (omega arith) in
     subst (λ (n : ℕ). Folds n r) (ap₂ (λ (n k : ℕ). nearestEven n (2 ^ k)) powers p ∙ sym (rw (before-end b x exponent end h, ← digits, ← exponent))) folds

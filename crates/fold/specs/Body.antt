@@ -13,15 +13,15 @@ use Rattle.grammar.specs.Meaning.{Written, digitOf, natFrom}
 use Rattle.grammar.specs.Naturals.{natOf, natFrom-snoc}
 use Rattle.grammar.specs.Run.{bodyOf}
 use Rattle.fold.specs.declared.Folded.{Folded}
-use Rattle.fold.specs.Fold.{foldOf, valueOf, fold-step}
+use Rattle.fold.specs.Fold.{foldOf, foldedValue, fold-step}
 
 -- a byte between two digits: `_` or the point
 abbrev pub isGap : ℕ → Bool
 isGap b = eqb b 95 || eqb b 46
 
 -- the digits from a position on
-abbrev pub digitsFrom : List ℕ → ℕ → List ℕ
-digitsFrom t i = bodyOf (drop i t)
+abbrev pub digitsAt : List ℕ → ℕ → List ℕ
+digitsAt t i = bodyOf (drop i t)
 
 -- whether any digit is not 0
 unfoldable pub anyOf : List ℕ → Bool
@@ -40,34 +40,34 @@ body-length (b ∷ t) = go (isGap b) (body-length t)
 
 -- ---- one byte of the loops
 module _ (t : List ℕ) (i : ℕ) where
-  pub from-gap : i < length t → isGap (getD t i 0) ≡ true → digitsFrom t i ≡ digitsFrom t (i + 1)
+  pub from-gap : i < length t → isGap (getD t i 0) ≡ true → digitsAt t i ≡ digitsAt t (i + 1)
   unfolding bodyOf
   from-gap h e = rw (add-one, drop-cons t i 0 h, e)
 
-  pub from-digit : i < length t → isGap (getD t i 0) ≡ false → digitsFrom t i ≡ digitOf (getD t i 0) ∷ digitsFrom t (i + 1)
+  pub from-digit : i < length t → isGap (getD t i 0) ≡ false → digitsAt t i ≡ digitOf (getD t i 0) ∷ digitsAt t (i + 1)
   unfolding bodyOf
   from-digit h e = rw (add-one, drop-cons t i 0 h, e)
 
-  pub from-end : length t ≤ i → digitsFrom t i ≡ []
+  pub from-end : length t ≤ i → digitsAt t i ≡ []
   unfolding bodyOf
   from-end h = rw (drop-of-length-le t h)
 
 -- ---- the contracts of the walk: what is left from `at` on are the digits after those taken
 pub record Next (t : List ℕ) (from digit at : ℕ) : Type 0 where
-  pub first : digit ≡ getD (digitsFrom t from) 0 0
-  pub rest : digitsFrom t at ≡ drop 1 (digitsFrom t from)
+  pub first : digit ≡ getD (digitsAt t from) 0 0
+  pub rest : digitsAt t at ≡ drop 1 (digitsAt t from)
   pub within : at ≤ length t
 
 pub record Taken (t : List ℕ) (from count radix : ℕ) (number : Folded) (at : ℕ) : Type 0 where
-  pub folded : number ≡ foldOf (natOf radix (take count (digitsFrom t from)))
-  pub rest : digitsFrom t at ≡ drop count (digitsFrom t from)
+  pub folded : number ≡ foldOf (natOf radix (take count (digitsAt t from)))
+  pub rest : digitsAt t at ≡ drop count (digitsAt t from)
   pub within : at ≤ length t
 
 -- ---- the first digit
-module _ {t : List ℕ} {from i : ℕ} (inv : digitsFrom t i ≡ digitsFrom t from) where
+module _ {t : List ℕ} {from i : ℕ} (inv : digitsAt t i ≡ digitsAt t from) where
   pub next-found : {d : ℕ} → i < length t → isGap (getD t i 0) ≡ false → d ≡ digitOf (getD t i 0) → Next t from d (i + 1)
   next-found {d} h e f =
-      let q : digitsFrom t from ≡ digitOf (getD t i 0) ∷ digitsFrom t (i + 1) = sym inv ∙ from-digit t i h e in
+      let q : digitsAt t from ≡ digitOf (getD t i 0) ∷ digitsAt t (i + 1) = sym inv ∙ from-digit t i h e in
       record {
         first = f ∙ sym (ap (λ (l : List ℕ). getD l 0 0) q);
         rest = sym (ap (drop 1) q);
@@ -76,7 +76,7 @@ module _ {t : List ℕ} {from i : ℕ} (inv : digitsFrom t i ≡ digitsFrom t fr
 
   pub next-none : length t ≤ i → i ≤ length t → Next t from 0 i
   next-none h k =
-      let q : digitsFrom t from ≡ [] = sym inv ∙ from-end t i h in
+      let q : digitsAt t from ≡ [] = sym inv ∙ from-end t i h in
       record {
         first = sym (ap (λ (l : List ℕ). getD l 0 0) q);
         rest = from-end t i h ∙ sym (ap (drop 1) q);
@@ -88,26 +88,26 @@ abbrev pub isNonzero : ℕ → Bool
 isNonzero b = cond (isGap b) false (ltb 0 (digitOf b))
 
 module _ (t : List ℕ) (i : ℕ) (h : i < length t) where
-  any-byte : (g : Bool) → isGap (getD t i 0) ≡ g → anyOf (digitsFrom t i) ≡ cond g (anyOf (digitsFrom t (i + 1))) (cond (eqb (digitOf (getD t i 0)) 0) (anyOf (digitsFrom t (i + 1))) true)
+  any-byte : (g : Bool) → isGap (getD t i 0) ≡ g → anyOf (digitsAt t i) ≡ cond g (anyOf (digitsAt t (i + 1))) (cond (eqb (digitOf (getD t i 0)) 0) (anyOf (digitsAt t (i + 1))) true)
   unfolding anyOf
   any-byte true e = ap anyOf (from-gap t i h e)
   any-byte false e = ap anyOf (from-digit t i h e)
 
-  pub any-here : isNonzero (getD t i 0) ≡ true → anyOf (digitsFrom t i) ≡ true
+  pub any-here : isNonzero (getD t i 0) ≡ true → anyOf (digitsAt t i) ≡ true
   any-here m = any-byte (isGap (getD t i 0)) refl ∙ go (isGap (getD t i 0)) (digitOf (getD t i 0)) m
     where
-      go : (g : Bool) (d : ℕ) → cond g false (ltb 0 d) ≡ true → cond g (anyOf (digitsFrom t (i + 1))) (cond (eqb d 0) (anyOf (digitsFrom t (i + 1))) true) ≡ true
+      go : (g : Bool) (d : ℕ) → cond g false (ltb 0 d) ≡ true → cond g (anyOf (digitsAt t (i + 1))) (cond (eqb d 0) (anyOf (digitsAt t (i + 1))) true) ≡ true
       go true d e = absurd (false≢true e)
       go false d e = rw (ne-eqb d 0 (omega (arith, ltb-true 0 d e)))
 
-  pub any-later : isNonzero (getD t i 0) ≡ false → anyOf (digitsFrom t i) ≡ anyOf (digitsFrom t (i + 1))
+  pub any-later : isNonzero (getD t i 0) ≡ false → anyOf (digitsAt t i) ≡ anyOf (digitsAt t (i + 1))
   any-later m = any-byte (isGap (getD t i 0)) refl ∙ go (isGap (getD t i 0)) (digitOf (getD t i 0)) m
     where
-      go : (g : Bool) (d : ℕ) → cond g false (ltb 0 d) ≡ false → cond g (anyOf (digitsFrom t (i + 1))) (cond (eqb d 0) (anyOf (digitsFrom t (i + 1))) true) ≡ anyOf (digitsFrom t (i + 1))
+      go : (g : Bool) (d : ℕ) → cond g false (ltb 0 d) ≡ false → cond g (anyOf (digitsAt t (i + 1))) (cond (eqb d 0) (anyOf (digitsAt t (i + 1))) true) ≡ anyOf (digitsAt t (i + 1))
       go true d e = refl
       go false d e = rw (eq-eqb d 0 (omega (arith, ltb-false 0 d e)))
 
-pub any-end : (t : List ℕ) (i : ℕ) → length t ≤ i → anyOf (digitsFrom t i) ≡ false
+pub any-end : (t : List ℕ) (i : ℕ) → length t ≤ i → anyOf (digitsAt t i) ≡ false
 unfolding anyOf
 any-end t i h = rw (from-end t i h)
 
@@ -118,12 +118,12 @@ module _ (radix : ℕ) (ds : List ℕ) (k : ℕ) where
 
 -- k digits are taken, the next is d
 module _ (t : List ℕ) (from radix : ℕ) {k at : ℕ} {x : Folded} (inv : Taken t from k radix x at) {d next : ℕ} (one : Next t at d next) where
-  pub taken-more : {y : Folded} → 0 < radix → k < length (digitsFrom t from) → y ≡ foldOf (valueOf x * radix + d) → Taken t from (k + 1) radix y next
+  pub taken-more : {y : Folded} → 0 < radix → k < length (digitsAt t from) → y ≡ foldOf (foldedValue x * radix + d) → Taken t from (k + 1) radix y next
   taken-more {y} r h e =
-      let ds = digitsFrom t from in
+      let ds = digitsAt t from in
       let digit : d ≡ getD ds k 0 = one .first ∙ ap (λ (l : List ℕ). getD l 0 0) (inv .rest) ∙ getD-drop k ds 0 0 ∙ ap (λ (j : ℕ). getD ds j 0) (omega arith) in
       record {
-        folded = e ∙ ap₂ (λ (z : Folded) (c : ℕ). foldOf (valueOf z * radix + c)) (inv .folded) digit ∙ fold-step (natOf radix (take k ds)) radix (getD ds k 0) r ∙ ap foldOf (sym (nat-more radix ds k h));
+        folded = e ∙ ap₂ (λ (z : Folded) (c : ℕ). foldOf (foldedValue z * radix + c)) (inv .folded) digit ∙ fold-step (natOf radix (take k ds)) radix (getD ds k 0) r ∙ ap foldOf (sym (nat-more radix ds k h));
         rest = one .rest ∙ ap (drop 1) (inv .rest) ∙ drop-drop 1 k ds;
         within = one .within;
       }

@@ -2,7 +2,7 @@
 ghost use mathlib.Core.Path.{_≡_};
 ghost use Prim.Native.Nat.{_<_, _≤_};
 ghost use lib.ListN.{length};
-ghost use Rattle.fold.specs.Body.{isGap, isNonzero, digitsFrom, anyOf, Next as NextOf, Taken as TakenOf};
+ghost use Rattle.fold.specs.Body.{isGap, isNonzero, digitsAt, anyOf, Next as NextOf, Taken as TakenOf};
 use crate::Folded;
 
 const UNDERSCORE: u8 = 95;
@@ -63,7 +63,7 @@ pub fn next_digit(body: &[u8], from: usize) -> Next
 
 // The next `count` digits as one number in the radix.
 pub fn fold_digits(body: &[u8], from: usize, count: usize, radix: u64) -> Taken
-    requires { ⌜ (0 < radix) × (from ≤ length (now body)) × (count ≤ length (digitsFrom (now body) from)) ⌝ }
+    requires { ⌜ (0 < radix) × (from ≤ length (now body)) × (count ≤ length (digitsAt (now body) from)) ⌝ }
     ensures { λ r. ⌜ TakenOf (now (body .entry)) from count radix (r .number) (r .at) ⌝ }
 {
     let mut number = crate::of(0);
@@ -81,7 +81,7 @@ pub fn fold_digits(body: &[u8], from: usize, count: usize, radix: u64) -> Taken
 // Whether any digit from a position on is not 0.
 pub fn any_nonzero(body: &[u8], from: usize) -> bool
     requires { ⌜ from ≤ length (now body) ⌝ }
-    ensures { λ r. ⌜ r ≡ anyOf (digitsFrom (now (body .entry)) from) ⌝ }
+    ensures { λ r. ⌜ r ≡ anyOf (digitsAt (now (body .entry)) from) ⌝ }
 {
     let mut i = from;
     while i < body.len() {

@@ -3,7 +3,7 @@
 ghost use mathlib.Core.Path.{_≡_};
 ghost use Prim.Native.Nat.{_+_, _*_, _^_, _<_};
 ghost use Rattle.wide.specs.Meaning.{valueOf as wideOf};
-ghost use Rattle.fold.specs.Fold.{foldOf, valueOf, bit};
+ghost use Rattle.fold.specs.Fold.{foldOf, foldedValue, bit};
 ghost use Rattle.fold.specs.Round.{roundBy};
 use wide::Wide;
 
@@ -51,7 +51,7 @@ fn words(a: u64, m: u64, d: u64) -> Wide
 // x * m + d. Once past 2^64, a number stays past it.
 pub fn times(x: Folded, m: u64, d: u64) -> Folded
     requires { ⌜ 0 < m ⌝ }
-    ensures { λ r. ⌜ r ≡ foldOf (valueOf x * m + d) ⌝ }
+    ensures { λ r. ⌜ r ≡ foldOf (foldedValue x * m + d) ⌝ }
 {
     let sum = words(x.low, m, d);
     let far = 0 < sum.high;
@@ -69,14 +69,14 @@ pub fn times(x: Folded, m: u64, d: u64) -> Folded
 
 // x + b.
 pub fn add(x: Folded, b: u64) -> Folded
-    ensures { λ r. ⌜ r ≡ foldOf (valueOf x + b) ⌝ }
+    ensures { λ r. ⌜ r ≡ foldOf (foldedValue x + b) ⌝ }
 {
     times(x, 1, b)
 }
 
 // x * 2^k, for every k.
 pub fn scaled(x: Folded, k: u64) -> Folded
-    ensures { λ r. ⌜ r ≡ foldOf (valueOf x * 2 ^ k) ⌝ }
+    ensures { λ r. ⌜ r ≡ foldOf (foldedValue x * 2 ^ k) ⌝ }
 {
     if k < 64 {
         return times(x, wide::shl_word(1, k as u32), 0);
@@ -92,7 +92,7 @@ pub fn scaled(x: Folded, k: u64) -> Folded
 
 // The number or the next, by how the fraction that was cut off compares with one half. The number's own last bit decides a tie.
 pub fn rounded(x: Folded, how: Order) -> Folded
-    ensures { λ r. ⌜ r ≡ foldOf (roundBy how (valueOf x)) ⌝ }
+    ensures { λ r. ⌜ r ≡ foldOf (roundBy how (foldedValue x)) ⌝ }
 {
     match how {
         Order::Less => add(x, 0),

@@ -6,7 +6,7 @@ use mathlib.Core.List.{List, [], _∷_, map}
 use Prim.Native.Nat.{ℕ}
 use lib.IntN.{ℤ, pos, negℤ}
 use Rattle.format.specs.declared.Manner.the-variants.{Strict, Saturating, Wrapping, Overflowing}
-use Rattle.format.specs.Meaning.{signed, unsigned, isWidth, faultOf, lowest, highest, fits, hold, wrap, settle, withSign, unless, Outcome, done, refused}
+use Rattle.format.specs.Meaning.{signed, unsigned, isWidth, faultOf, lowest, highest, fits, hold, wrap, settle, withSign, unless, Outcome, done, refused, guarded}
 
 -- what comes out, with the flag clear: a raw, or one below 0
 abbrev raw : ℕ → Outcome
@@ -28,7 +28,7 @@ data Case : Type 0 where
   _gives_ : Outcome → Outcome → Case
 
 got : Case → Outcome
-unfolding isWidth faultOf lowest highest fits hold wrap settle withSign unless
+unfolding isWidth faultOf lowest highest fits hold wrap settle withSign guarded
 got (a gives b) = a
 
 abbrev want : Case → Outcome
@@ -62,5 +62,5 @@ document =
     ∷ []
 
 document-right : map got document ≡ map want document
-unfolding got document isWidth faultOf lowest highest fits hold wrap settle withSign unless
+unfolding got document isWidth faultOf lowest highest fits hold wrap settle withSign guarded
 document-right = refl

@@ -58,9 +58,12 @@ settle Saturating s w x = done (hold s w x) false
 settle Wrapping s w x = done (wrap s w x) false
 settle Overflowing s w x = done (wrap s w x) (not (fits s w x))
 
--- a refusal, where there is one, goes before the outcome
-unfoldable pub unless : ℕ → Outcome → Outcome
-unless n o = cond (eqb n 0) o (refused n)
+-- A refusal, where there is one (0 for none), goes before what is done: of a call that leaves more than an answer, and of an outcome.
+unfoldable pub guarded : {A : Type 0} → ℕ → (ℕ → A) → A → A
+guarded fault refusal result = cond (eqb fault 0) result (refusal fault)
+
+abbrev pub unless : ℕ → Outcome → Outcome
+unless n o = guarded n refused o
 
 -- an exact number, as a sign and a magnitude; and the magnitude as two words
 unfoldable pub withSign : Bool → ℕ → ℤ

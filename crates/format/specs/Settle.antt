@@ -12,7 +12,7 @@ use mir.Val.{SFits}
 use borrow.Author.Tests.{leb-true, eq-eqb, ne-eqb}
 use Rattle.laws.specs.Bound.{sfits-in}
 use Rattle.laws.specs.Diff.{up}
-use Rattle.format.specs.Meaning.{Sign, signed, unsigned, isWidth, fits, wrap, settle, unless, withSign, exact, Outcome, done, refused}
+use Rattle.format.specs.Meaning.{Sign, signed, unsigned, isWidth, fits, wrap, settle, unless, withSign, exact, Outcome, done, refused, guarded}
 use Rattle.format.specs.Fault.{width-bounds, half-word}
 use Rattle.format.specs.Theorems.{limit}
 use Rattle.format.specs.Place.{PlacedAs, fits-place, hold-place, sign-out, residue, residue-wraps, resigned, resigned-wraps}
@@ -94,9 +94,9 @@ module _ (w : ℕ) (neg : Bool) (high low : ℕ) {u : ℕ} (width : isWidth w �
 
 -- the format's refusal goes first
 pub unless-fault : (n : ℕ) (o : Outcome) → (n ≡ 0 → ⊥) → unless n o ≡ refused n
-unfolding unless
+unfolding guarded
 unless-fault n o h = rw (ne-eqb n 0 h)
 
 pub unless-none : (n : ℕ) (o : Outcome) → n ≡ 0 → unless n o ≡ o
-unfolding unless
+unfolding guarded
 unless-none n o h = rw (eq-eqb n 0 h)

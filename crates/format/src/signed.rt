@@ -2,14 +2,14 @@
 ghost use mathlib.Core.Path.{_≡_};
 ghost use mathlib.Core.Bool.{true};
 ghost use Prim.Native.Nat.{_<_, _^_};
-ghost use lib.IntN.{pos, negsuc, natAbs};
+ghost use lib.IntN.{pos, negsuc};
 ghost use mir.Syntax.{w64};
 ghost use mir.Val.{SFits};
 ghost use Rattle.format.specs.declared.Manner.the-variants.{Strict, Saturating, Wrapping, Overflowing};
 ghost use Rattle.format.specs.Meaning.{isWidth, signed, settle as settleOf, exact, withSign, signedAnswer};
 ghost use Rattle.format.specs.Theorems.{limit as limitOf};
 ghost use Rattle.format.specs.Place.{resigned as resignedOf, residue as residueOf};
-ghost use Rattle.format.specs.Promise.{SettleSigned};
+ghost use Rattle.format.specs.Promise.{Magnitude, SettleSigned};
 use crate::Manner;
 use crate::SignedAnswer;
 use crate::place;
@@ -112,7 +112,7 @@ pub fn with_sign(neg: bool, magnitude: u64) -> i64
 
 // |x|, of every signed word: -2^63 has one too.
 pub fn magnitude(x: i64) -> u64
-    ensures { λ r. ⌜ r ≡ natAbs x ⌝ }
+    ensures { λ r. ⌜ Magnitude x r ⌝ }
 {
     if x < 0 {
         return (-1 - x) as u64 + 1;

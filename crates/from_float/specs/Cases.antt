@@ -8,9 +8,9 @@ use lib.IntN.{ℤ, pos, negℤ}
 use Rattle.laws.specs.Nearest.{nearestEven, nearestBy}
 use Rattle.format.specs.declared.Manner.{Manner}
 use Rattle.format.specs.declared.Manner.the-variants.{Strict, Saturating, Wrapping, Overflowing}
-use Rattle.format.specs.Meaning.{Sign, signed, unsigned, Outcome, done, refused, isWidth, faultOf, lowest, highest, fits, hold, wrap, settle, unless, withSign}
-use Rattle.float.specs.Meaning.{binary32, binary64, ofFields, valueOf, rawOf}
-use Rattle.from_float.specs.Meaning.{infinity, ofValue, fromOf}
+use Rattle.format.specs.Meaning.{Sign, signed, unsigned, Outcome, done, refused, isWidth, faultOf, lowest, highest, fits, hold, wrap, settle, withSign, guarded}
+use Rattle.float.specs.Meaning.{binary32, binary64, ofFields, patternValue, rawOfSteps}
+use Rattle.from_float.specs.Meaning.{infinity, ofValue, fromFloatOf}
 
 -- ---- how a row is written
 record Format : Type 0 where
@@ -32,9 +32,9 @@ data Row : Type 0 where
   f64 : ℕ → Manner → Format → Outcome → Row
 
 unfoldable got : Row → Outcome
-unfolding isWidth faultOf unless
-got (f32 x k f o) = fromOf binary32 k (f .kind) (f .width) (f .frac) x
-got (f64 x k f o) = fromOf binary64 k (f .kind) (f .width) (f .frac) x
+unfolding isWidth faultOf guarded
+got (f32 x k f o) = fromFloatOf binary32 k (f .kind) (f .width) (f .frac) x
+got (f64 x k f o) = fromFloatOf binary64 k (f .kind) (f .width) (f .frac) x
 
 unfoldable told : Row → Outcome
 told (f32 x k f o) = o
@@ -107,5 +107,5 @@ table =
 
 module _ where
   each : map got table ≡ map told table
-  unfolding got told isWidth faultOf unless lowest highest fits hold wrap settle withSign nearestEven nearestBy ofFields valueOf rawOf infinity ofValue
+  unfolding got told isWidth faultOf guarded lowest highest fits hold wrap settle withSign nearestEven nearestBy ofFields patternValue rawOfSteps infinity ofValue
   each = refl

@@ -5,7 +5,7 @@ use Prim.Native.Nat.{ℕ}
 use Rattle.format.specs.declared.Manner.{Manner}
 use Rattle.format.specs.declared.Manner.the-variants.{Strict, Saturating, Wrapping, Overflowing}
 use Rattle.format.specs.Meaning.{Sign, lowest, highest, Outcome, done, refused, faultOf, unless, settle, withSign}
-use Rattle.float.specs.Meaning.{Binary, Value, nan, infinite, finite, valueOf, rawOf}
+use Rattle.float.specs.Meaning.{Binary, Value, nan, infinite, finite, patternValue, rawOfSteps}
 
 -- "30: NaN, or an infinity outside the saturating manner"; "Saturating takes an infinity to the end of its sign"
 unfoldable pub infinity : Manner → Sign → ℕ → Bool → Outcome
@@ -18,7 +18,7 @@ infinity Overflowing s w neg = refused 30
 unfoldable pub ofValue : Binary → Manner → Sign → ℕ → ℕ → Value → Outcome
 ofValue b k s w f nan = refused 30
 ofValue b k s w f (infinite neg) = infinity k s w neg
-ofValue b k s w f (finite neg n) = settle k s w (withSign neg (rawOf b f n))
+ofValue b k s w f (finite neg n) = settle k s w (withSign neg (rawOfSteps b f n))
 
-abbrev pub fromOf : Binary → Manner → Sign → ℕ → ℕ → ℕ → Outcome
-fromOf b k s w f x = unless (faultOf w f) (ofValue b k s w f (valueOf b x))
+abbrev pub fromFloatOf : Binary → Manner → Sign → ℕ → ℕ → ℕ → Outcome
+fromFloatOf b k s w f x = unless (faultOf w f) (ofValue b k s w f (patternValue b x))

@@ -10,14 +10,14 @@ use borrow.Author.Tests.{eqb-true, eqb-false, eq-eqb, ne-eqb}
 use Rattle.wide.specs.declared.Wide.{Wide}
 use Rattle.format.specs.declared.Manner.{Manner}
 use Rattle.format.specs.declared.Manner.the-variants.{Strict, Saturating, Wrapping, Overflowing}
-use Rattle.format.specs.Meaning.{Sign, isWidth, settle, unless, faultOf, withSign, exact, done, refused}
+use Rattle.format.specs.Meaning.{Sign, isWidth, settle, unless, faultOf, withSign, exact, done, refused, guarded}
 use Rattle.format.specs.Fault.{fault-free, width-bounds}
 use Rattle.format.specs.Settle.{unless-fault, unless-none}
 use Rattle.format.specs.Far.{far-end}
-use Rattle.float.specs.Meaning.{Binary, negative, biased, trailing, steps, nan, infinite, finite, ofFields, valueOf, rawOf}
+use Rattle.float.specs.Meaning.{Binary, negative, biased, trailing, steps, nan, infinite, finite, ofFields, patternValue, rawOfSteps}
 use Rattle.float.specs.Parts.{magnitudeOf, at-end, before-end}
 use Rattle.float.specs.Folds.{Folds, settle-folds}
-use Rattle.from_float.specs.Meaning.{infinity, ofValue, fromOf}
+use Rattle.from_float.specs.Meaning.{infinity, ofValue, fromFloatOf}
 
 -- ---- the refusals
 unfoldable pub infiniteFault : Manner → ℕ
@@ -34,36 +34,36 @@ wholeFault b k w f x = cond (eqb (faultOf w f) 0) (patternFault b k x) (faultOf 
 
 -- ---- this is the meaning
 infinite-as : (b : Binary) (k : Manner) (s : Sign) (w : ℕ) (neg : Bool) → isWidth w ≡ true → infinity k s w neg ≡ unless (infiniteFault k) (settle k s w (withSign neg (2 ^ 64)))
-unfolding infinity infiniteFault unless settle
+unfolding infinity infiniteFault guarded settle
 infinite-as b Strict s w neg h = refl
 infinite-as b Saturating s w neg h = ap (λ (z : ℤ). done z false) (sym (far-end s w neg (2 ^ 64) (width-bounds w h .1) (omega arith)))
 infinite-as b Wrapping s w neg h = refl
 infinite-as b Overflowing s w neg h = refl
 
 module _ (b : Binary) (k : Manner) (s : Sign) (w f x : ℕ) where
-  value-as : isWidth w ≡ true → ofValue b k s w f (valueOf b x) ≡ unless (patternFault b k x) (settle k s w (withSign (negative b x) (magnitudeOf b f x)))
-  unfolding ofValue valueOf ofFields patternFault magnitudeOf unless
+  value-as : isWidth w ≡ true → ofValue b k s w f (patternValue b x) ≡ unless (patternFault b k x) (settle k s w (withSign (negative b x) (magnitudeOf b f x)))
+  unfolding ofValue patternValue ofFields patternFault magnitudeOf guarded
   value-as h = go (negative b x) (biased b x) (trailing b x) (eqb (biased b x) (2 ^ b .field - 1)) (eqb (trailing b x) 0)
     where
       go : (neg : Bool) (e t : ℕ) (p q : Bool)
           → ofValue b k s w f (cond p (cond q (infinite neg) nan) (finite neg (steps b e t)))
-          ≡ unless (cond p (cond q (infiniteFault k) 30) 0) (settle k s w (withSign neg (cond p (2 ^ 64) (rawOf b f (steps b e t)))))
+          ≡ unless (cond p (cond q (infiniteFault k) 30) 0) (settle k s w (withSign neg (cond p (2 ^ 64) (rawOfSteps b f (steps b e t)))))
       go neg e t true true = infinite-as b k s w neg h
       go neg e t true false = refl
       go neg e t false q = refl
 
-  pub from-as : fromOf b k s w f x ≡ unless (wholeFault b k w f x) (settle k s w (withSign (negative b x) (magnitudeOf b f x)))
+  pub from-as : fromFloatOf b k s w f x ≡ unless (wholeFault b k w f x) (settle k s w (withSign (negative b x) (magnitudeOf b f x)))
   unfolding wholeFault
   from-as = go (eqb (faultOf w f) 0) refl
     where
-      go : (t : Bool) → eqb (faultOf w f) 0 ≡ t → unless (faultOf w f) (ofValue b k s w f (valueOf b x))
+      go : (t : Bool) → eqb (faultOf w f) 0 ≡ t → unless (faultOf w f) (ofValue b k s w f (patternValue b x))
           ≡ unless (cond t (patternFault b k x) (faultOf w f)) (settle k s w (withSign (negative b x) (magnitudeOf b f x)))
       go true e =
           let z = eqb-true (faultOf w f) 0 e in
-          unless-none (faultOf w f) (ofValue b k s w f (valueOf b x)) z ∙ value-as (fault-free w f z .0)
+          unless-none (faultOf w f) (ofValue b k s w f (patternValue b x)) z ∙ value-as (fault-free w f z .0)
       go false e =
           let z = eqb-false (faultOf w f) 0 e in
-          unless-fault (faultOf w f) (ofValue b k s w f (valueOf b x)) z ∙ sym (unless-fault (faultOf w f) (settle k s w (withSign (negative b x) (magnitudeOf b f x))) z)
+          unless-fault (faultOf w f) (ofValue b k s w f (patternValue b x)) z ∙ sym (unless-fault (faultOf w f) (settle k s w (withSign (negative b x) (magnitudeOf b f x))) z)
 
 -- ---- what no refusal tells of the format
 none-before : (b : Binary) (k : Manner) (w f x : ℕ) → wholeFault b k w f x ≡ 0 → faultOf w f ≡ 0
@@ -86,13 +86,13 @@ module _ (b : Binary) (k : Manner) (w f x : ℕ) {fault : ℕ} (e : fault ≡ wh
       record { width = free .0; frac = omega (arith, width-bounds w (free .0)) }
 
   pub from-done : (s : Sign) {neg : Bool} {r : Wide} → fault ≡ 0 → neg ≡ negative b x → Folds (magnitudeOf b f x) r
-      → settle k s w (exact neg (r .high) (r .low)) ≡ fromOf b k s w f x
+      → settle k s w (exact neg (r .high) (r .low)) ≡ fromFloatOf b k s w f x
   from-done s {neg} {r} z n folds =
       settle-folds s w neg (met z .width) folds k
       ∙ ap (λ (t : Bool). settle k s w (withSign t (magnitudeOf b f x))) n
       ∙ sym (from-as b k s w f x ∙ unless-none (wholeFault b k w f x) (settle k s w (withSign (negative b x) (magnitudeOf b f x))) (sym e ∙ z))
 
-  pub from-refused : (s : Sign) → (fault ≡ 0 → ⊥) → fromOf b k s w f x ≡ refused fault
+  pub from-refused : (s : Sign) → (fault ≡ 0 → ⊥) → fromFloatOf b k s w f x ≡ refused fault
   from-refused s h =
       from-as b k s w f x ∙ unless-fault (wholeFault b k w f x) (settle k s w (withSign (negative b x) (magnitudeOf b f x))) (λ z. h (e ∙ z)) ∙ ap refused (sym e)
 

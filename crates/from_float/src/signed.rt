@@ -2,7 +2,7 @@
 ghost use mathlib.Core.Path.{_≡_};
 ghost use Rattle.format.specs.Meaning.{signed as isSigned, signedAnswer};
 ghost use Rattle.float.specs.Parts.{binary, Small};
-ghost use Rattle.from_float.specs.Meaning.{fromOf};
+ghost use Rattle.from_float.specs.Meaning.{fromFloatOf};
 ghost use Rattle.from_float.specs.Promise.{SignedF32, SignedF64};
 use crate::refusal;
 use float::pattern;
@@ -45,7 +45,7 @@ fn from(
     manner: Manner,
 ) -> SignedAnswer
     requires { ⌜ Small precision field ⌝ }
-    ensures { λ r. ⌜ r ≡ signedAnswer (fromOf (binary precision field) manner isSigned width frac pattern) ⌝ }
+    ensures { λ r. ⌜ r ≡ signedAnswer (fromFloatOf (binary precision field) manner isSigned width frac pattern) ⌝ }
 {
     let fault = refusal::of_call(pattern, precision, field, width, frac, manner);
     if fault == 0 {

@@ -6,7 +6,7 @@ use Rattle.format.specs.declared.Manner.{Manner}
 use Rattle.format.specs.declared.SignedAnswer.{SignedAnswer}
 use Rattle.format.specs.declared.UnsignedAnswer.{UnsignedAnswer}
 use Rattle.format.specs.Meaning.{signed, unsigned, signedAnswer, unsignedAnswer}
-use Rattle.format.specs.Promise.{unique}
+use Rattle.laws.specs.Unique.{unique}
 use Rattle.further.specs.Meaning.{absOf, signumOf, remEuclidOf, divEuclidOf, mulAddOf, distOf, meanOf}
 
 abbrev pub SignedAbs : ℤ → ℕ → ℕ → Manner → SignedAnswer → Type 0

@@ -9,8 +9,8 @@ use lib.Dec.{T, leb, eqb, leb→le}
 use lib.ListN.{length, length-append, getD}
 use borrow.Author.Tests.{leb-true, ltb-true, eqb-true}
 use Rattle.format.specs.Meaning.{Sign}
-use Rattle.grammar.specs.Meaning.{digitOf, isSign, isMark, Written, Reading, number, unread, expLimit, prefixMark, prefixRadix, afterPrefix, literalMinus, literalBody, literalRadix, isBitMark, isRadix}
-use Rattle.grammar.specs.Automaton.{Sep, Skip, Error, isDigit, baseOf, Part, whole, fraction, exponent, Seen, nothing, sign, digit, Scan, at, refuse, blank, withDigit, onExpDigit, step, scan, ended, finish, plainScan, literalScan, onSign, onPoint, invalid, onUnderscore, onMark, onOther, readingOf}
+use Rattle.grammar.specs.Meaning.{digitOf, isSign, isMark, Written, Reading, number, unread, expLimit, prefixMark, prefixRadix, afterPrefix, literalMinus, literalBody, literalRadix, isBitMark, isRadix, blank, withDigit}
+use Rattle.grammar.specs.Automaton.{Sep, Skip, Error, isDigit, baseOf, Part, whole, fraction, exponent, Seen, nothing, sign, digit, Scan, at, refuse, onExpDigit, step, scan, ended, finish, plainScan, literalScan, onSign, onPoint, invalid, onUnderscore, onMark, onOther, readingOf}
 
 -- the exponent: 0 until a digit of it was read, then within its range
 unfoldable pub ExpIs : Part → Seen → Bool → ℕ → Type 0

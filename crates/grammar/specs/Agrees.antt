@@ -9,9 +9,9 @@ use borrow.Author.Tests.{eqb-true}
 use Rattle.format.specs.declared.Manner.{Manner}
 use Rattle.format.specs.declared.Manner.the-variants.{Strict}
 use Rattle.format.specs.Meaning.{Sign, Outcome, refused, unless, faultOf}
-use Rattle.grammar.specs.Meaning.{digitOf, isSign, isMark, Written, Reading, number, unread, expLimit, atEnd, afterSign, exponentFrom, digitsFrom, plainReading}
+use Rattle.grammar.specs.Meaning.{digitOf, isSign, isMark, Written, Reading, number, unread, expLimit, atEnd, afterSign, exponentFrom, digitsFrom, plainReading, blank, withDigit, withExp}
 use Rattle.grammar.specs.Meaning.{literalMinus, literalBody, afterPrefix, literalRadix, literalReading, outcomeOf, isRadix, textLimit, readOf, literalOf}
-use Rattle.grammar.specs.Automaton.{isDigit, baseOf, blank, withDigit, withExp, whole, fraction, exponent, Seen, nothing, digit, Scan, at, refuse, Sep, Skip, Error}
+use Rattle.grammar.specs.Automaton.{isDigit, baseOf, whole, fraction, exponent, Seen, nothing, digit, Scan, at, refuse, Sep, Skip, Error}
 use Rattle.grammar.specs.Automaton.{onSign, onPoint, onUnderscore, onMark, onExpDigit, onOther, plainScan, literalScan, readingOf, readScan}
 use Rattle.grammar.specs.Accepted.{Says, ends-says, plain-ends, literal-ends}
 use Rattle.grammar.specs.Class.{classOf}
@@ -43,7 +43,7 @@ module _ (skip : Bool) (radix : ℕ) where
   k = sepOf skip
 
   -- ---- the exponent
-  end-agrees : (x : Written) (e : ℕ) (seen : Bool) → atEnd (x .neg) (x .digits) (x .after) (x .base) (x .down) e seen ≡ reading k radix [] (expAt seen x e)
+  end-agrees : (x : Written) (e : ℕ) (seen : Bool) → atEnd (withExp x (x .down) e) seen ≡ reading k radix [] (expAt seen x e)
   unfolding expEnd
   end-agrees x e seen = go (eqb (length (x .digits)) 0) seen ∙ sym (read-exp-end k radix seen x e)
     where
@@ -107,7 +107,7 @@ module _ (skip : Bool) (radix : ℕ) where
         go false false false true p q r = sym (read-refused k radix t 18)
         go false false false false p q r = digit-agrees more
 
-  exponent-agrees : (x : Written) (e : ℕ) (seen : Bool) (t : List ℕ) → exponentFrom skip radix (x .neg) (x .digits) (x .after) (x .base) (x .down) e seen t ≡ reading k radix t (expAt seen x e)
+  exponent-agrees : (x : Written) (e : ℕ) (seen : Bool) (t : List ℕ) → exponentFrom skip radix (withExp x (x .down) e) seen t ≡ reading k radix t (expAt seen x e)
   unfolding exponentFrom
   exponent-agrees x e seen [] = end-agrees x e seen
   exponent-agrees x e seen (b ∷ t) = byte-agrees b t x e seen (exponent-agrees x e seen t) (exponent-agrees x (e * 10 + digitOf b) true t)
@@ -121,15 +121,15 @@ module _ (skip : Bool) (radix : ℕ) where
     abbrev marked : Bool → Written
     marked down = record { neg = neg; digits = ds; after = after; base = base; down = down; exp = 0 }
 
-    mark-agrees : (t : List ℕ) → exponentFrom skip radix neg ds after base (eqb (getD t 0 0) 45) 0 false (afterSign t) ≡ reading k radix t (at exponent nothing (marked false))
+    mark-agrees : (t : List ℕ) → exponentFrom skip radix (marked (eqb (getD t 0 0) 45)) false (afterSign t) ≡ reading k radix t (at exponent nothing (marked false))
     unfolding signFirst
     mark-agrees [] = exponent-agrees (marked false) 0 false [] ∙ sym (read-exponent-unsigned k radix [] (marked false) refl)
     mark-agrees (c ∷ t) = go (isSign c) refl
       where
-        go : (s : Bool) → isSign c ≡ s → exponentFrom skip radix neg ds after base (eqb c 45) 0 false (cond s t (c ∷ t)) ≡ reading k radix (c ∷ t) (at exponent nothing (marked false))
+        go : (s : Bool) → isSign c ≡ s → exponentFrom skip radix (marked (eqb c 45)) false (cond s t (c ∷ t)) ≡ reading k radix (c ∷ t) (at exponent nothing (marked false))
         go true h = exponent-agrees (marked (eqb c 45)) 0 false t ∙ sym (read-exponent-sign k radix c t (marked false) h)
         go false h =
-            ap (λ (d : Bool). exponentFrom skip radix neg ds after base d 0 false (c ∷ t)) (or-right (eqb c 43) (eqb c 45) h)
+            ap (λ (d : Bool). exponentFrom skip radix (marked d) false (c ∷ t)) (or-right (eqb c 43) (eqb c 45) h)
             ∙ exponent-agrees (marked false) 0 false (c ∷ t) ∙ sym (read-exponent-unsigned k radix (c ∷ t) (marked false) h)
 
   -- what the automaton has seen of a part
@@ -165,7 +165,7 @@ module _ (skip : Bool) (radix : ℕ) where
     separator-agrees false true seen same = sym (read-refused Error radix t 13)
     separator-agrees false false seen same = sym (read-refused Error radix t 13)
 
-    marks-agrees : (base : ℕ) (point : Bool) → exponentFrom skip radix neg ds after base (eqb (getD t 0 0) 45) 0 false (afterSign t) ≡ rest (onMark base (partOf point) x)
+    marks-agrees : (base : ℕ) (point : Bool) → exponentFrom skip radix (marked neg ds after base (eqb (getD t 0 0) 45)) false (afterSign t) ≡ rest (onMark base (partOf point) x)
     unfolding onMark
     marks-agrees base true = mark-agrees neg ds after base t
     marks-agrees base false = mark-agrees neg ds after base t
@@ -190,7 +190,7 @@ module _ (skip : Bool) (radix : ℕ) where
         → cond (isSign b) (unread 12)
         (cond (eqb b 46) (cond point (unread 15) p)
         (cond (eqb b 95) (underscore skip seen 13 o)
-        (cond (isMark radix b) (exponentFrom skip radix neg ds after (baseOf radix b) (eqb (getD t 0 0) 45) 0 false (afterSign t))
+        (cond (isMark radix b) (exponentFrom skip radix (marked neg ds after (baseOf radix b) (eqb (getD t 0 0) 45)) false (afterSign t))
         (cond (not (isDigit radix b)) (unread 13) v))))
         ≡ reading k radix (b ∷ t) (at (partOf point) (seenOf point seen) x)
     unfolding classOf onClass
@@ -200,7 +200,7 @@ module _ (skip : Bool) (radix : ℕ) where
             cond s (unread 12)
             (cond d (cond point (unread 15) p)
             (cond u (underscore skip seen 13 o)
-            (cond m (exponentFrom skip radix neg ds after (baseOf radix b) (eqb (getD t 0 0) 45) 0 false (afterSign t))
+            (cond m (exponentFrom skip radix (marked neg ds after (baseOf radix b) (eqb (getD t 0 0) 45)) false (afterSign t))
             (cond (not (isDigit radix b)) (unread 13) v))))
             ≡ rest (onClass (cond s SignByte (cond d Point (cond u Underscore (cond m (Mark (baseOf radix b)) Other)))) k radix b (partOf point) (seenOf point seen) x)
         go true d u m = sign-agrees (eqb b 45) point seen
@@ -210,7 +210,7 @@ module _ (skip : Bool) (radix : ℕ) where
         go false false false false = last-agrees point more
 
   pub digits-agrees : (neg : Bool) (ds : List ℕ) (after : ℕ) (point seen : Bool) (t : List ℕ)
-      → digitsFrom skip radix neg ds after point seen t ≡ reading k radix t (at (partOf point) (seenOf point seen) (plain neg ds after))
+      → digitsFrom skip radix (plain neg ds after) point seen t ≡ reading k radix t (at (partOf point) (seenOf point seen) (plain neg ds after))
   unfolding digitsFrom
   digits-agrees neg ds after point seen [] = sym (read-end k radix point (seenOf point seen) (plain neg ds after))
   digits-agrees neg ds after point seen (b ∷ t) =
@@ -223,10 +223,10 @@ unfolding plainReading signFirst
 plain-agrees radix [] = digits-agrees false radix false [] 0 false false [] ∙ sym (read-unsigned Error radix [] (blank false) refl)
 plain-agrees radix (c ∷ t) = go (isSign c) refl
   where
-    go : (s : Bool) → isSign c ≡ s → digitsFrom false radix (eqb c 45) [] 0 false false (cond s t (c ∷ t)) ≡ reading Error radix (c ∷ t) (at whole nothing (blank false))
+    go : (s : Bool) → isSign c ≡ s → digitsFrom false radix (blank (eqb c 45)) false false (cond s t (c ∷ t)) ≡ reading Error radix (c ∷ t) (at whole nothing (blank false))
     go true h = digits-agrees false radix (eqb c 45) [] 0 false false t ∙ sym (read-sign Error radix c t h)
     go false h =
-        ap (λ (n : Bool). digitsFrom false radix n [] 0 false false (c ∷ t)) (or-right (eqb c 43) (eqb c 45) h)
+        ap (λ (n : Bool). digitsFrom false radix (blank n) false false (c ∷ t)) (or-right (eqb c 43) (eqb c 45) h)
         ∙ digits-agrees false radix false [] 0 false false (c ∷ t) ∙ sym (read-unsigned Error radix (c ∷ t) (blank false) h)
 
 pub plain-scanned : (radix : ℕ) (t : List ℕ) → plainReading radix t ≡ readingOf (plainScan radix t)

@@ -5,18 +5,16 @@ use mathlib.Core.List.{List, [], _∷_, _++_}
 use Prim.Native.Nat.{ℕ, zero, suc, _<_}
 use native.Mathlib.Omega.{arith}
 use lib.Dec.{eqb}
-use lib.ListN.{length, length-append, replicate}
+use lib.ListN.{length, length-append}
+use Rattle.laws.specs.Text.{zeros}
 use borrow.Author.Tests.{eqb-false, ne-eqb, lt-ltb}
 use Rattle.format.specs.declared.Manner.{Manner}
 use Rattle.format.specs.Meaning.{Sign, signed, unsigned, settle, withSign}
-use Rattle.grammar.specs.Meaning.{digitOf, isMark, Written, prefixMark, prefixRadix, dropUnderscores, afterPrefix, literalMinus, literalBody, rawOf}
-use Rattle.grammar.specs.Automaton.{Sep, fraction, Seen, digit, Scan, at, withDigit, step, scan, ended, finish, readScan, onOther}
+use Rattle.grammar.specs.Meaning.{digitOf, isMark, Written, prefixMark, prefixRadix, dropUnderscores, afterPrefix, literalMinus, literalBody, rawOf, withDigit}
+use Rattle.grammar.specs.Automaton.{Sep, fraction, Seen, digit, Scan, at, step, scan, ended, finish, readScan, onOther}
 use Rattle.grammar.specs.Accepted.{Ends, ends-sound, sound-base, finish-at, scan-append}
 use Rattle.grammar.specs.Literals.{short-prefix}
 use Rattle.grammar.specs.Rounding.{zero-more}
-
-abbrev pub zeros : ℕ → List ℕ
-zeros n = replicate n 48
 
 module _ (j : Sep) (radix : ℕ) (r : 0 < radix) where
   zero-step : (q : Seen) (x : Written) → step j radix 48 fraction q x ≡ at fraction digit (withDigit x 0 1)

@@ -7,7 +7,7 @@ use lib.Dec.{leb, ltb, eqb}
 use lib.ListN.{length}
 use Rattle.format.specs.declared.Manner.{Manner}
 use Rattle.format.specs.Meaning.{Sign, Outcome, refused, settle, withSign}
-use Rattle.grammar.specs.Meaning.{digitOf, isSign, isBitMark, isMark, Written, Reading, number, unread, expLimit, literalMinus, literalBody, afterPrefix, literalRadix, rawOf}
+use Rattle.grammar.specs.Meaning.{digitOf, isSign, isBitMark, isMark, Written, Reading, number, unread, expLimit, blank, withDigit, withBase, withExp, literalMinus, literalBody, afterPrefix, literalRadix, rawOf}
 
 abbrev pub isDigit : ℕ → ℕ → Bool
 isDigit radix b = ltb (digitOf b) radix
@@ -15,19 +15,6 @@ isDigit radix b = ltb (digitOf b) radix
 -- what a mark scales by
 abbrev pub baseOf : ℕ → ℕ → ℕ
 baseOf radix b = cond (isBitMark b) 2 radix
-
-abbrev pub blank : Bool → Written
-blank n = record { neg = n; digits = []; after = 0; base = 1; down = false; exp = 0 }
-
-abbrev pub withDigit : Written → ℕ → ℕ → Written
-withDigit x d places = record
-    { neg = x .neg; digits = x .digits ++ (d ∷ []); after = x .after + places; base = x .base; down = x .down; exp = x .exp }
-
-abbrev pub withBase : Written → ℕ → Written
-withBase x b = record { neg = x .neg; digits = x .digits; after = x .after; base = b; down = x .down; exp = x .exp }
-
-abbrev pub withExp : Written → Bool → ℕ → Written
-withExp x d e = record { neg = x .neg; digits = x .digits; after = x .after; base = x .base; down = d; exp = e }
 
 -- Where the scan stands: in which part of the number, and what was read of that part.
 pub data Part : Type 0 where

@@ -8,6 +8,7 @@ pub mod Literals
 pub mod Meaning
 pub mod Naturals
 pub mod Pointed
+pub mod Promise
 pub mod Reading
 pub mod Rounding
 pub mod Run

@@ -9,8 +9,8 @@ use lib.Dec.{eqb}
 use lib.ListN.{length, length-drop, drop, getD}
 use borrow.Author.Tests.{eqb-true, eqb-false, ne-eqb}
 use Rattle.format.specs.Meaning.{Sign, signed, unsigned}
-use Rattle.grammar.specs.Meaning.{isSign, Written, number, plainReading, literalReading, prefixMark, prefixRadix, dropUnderscores, afterPrefix, literalMinus, literalBody, literalRadix}
-use Rattle.grammar.specs.Automaton.{Sep, Skip, Error, Part, whole, Seen, nothing, sign, digit, Scan, at, refuse, blank, step, scan, finish, plainScan, literalScan, onSign, onUnderscore, readingOf}
+use Rattle.grammar.specs.Meaning.{isSign, Written, number, plainReading, literalReading, prefixMark, prefixRadix, dropUnderscores, afterPrefix, literalMinus, literalBody, literalRadix, blank}
+use Rattle.grammar.specs.Automaton.{Sep, Skip, Error, Part, whole, Seen, nothing, sign, digit, Scan, at, refuse, step, scan, finish, plainScan, literalScan, onSign, onUnderscore, readingOf}
 use Rattle.grammar.specs.Accepted.{finish-at, scan-refuse, number-at}
 use Rattle.grammar.specs.Agrees.{or-right, plain-scanned, literal-scanned}
 

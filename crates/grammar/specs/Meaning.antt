@@ -45,12 +45,23 @@ pub data Reading : Type 0 where
 abbrev pub expLimit : Bool → ℕ
 expLimit down = cond down 2147483648 2147483647
 
+-- Nothing read yet but the sign; with one digit more, behind the point or not; with what a mark scales by; with an exponent.
+abbrev pub blank : Bool → Written
+blank n = record { neg = n; digits = []; after = 0; base = 1; down = false; exp = 0 }
+
+abbrev pub withDigit : Written → ℕ → ℕ → Written
+withDigit x d places = record
+    { neg = x .neg; digits = x .digits ++ (d ∷ []); after = x .after + places; base = x .base; down = x .down; exp = x .exp }
+
+abbrev pub withBase : Written → ℕ → Written
+withBase x b = record { neg = x .neg; digits = x .digits; after = x .after; base = b; down = x .down; exp = x .exp }
+
+abbrev pub withExp : Written → Bool → ℕ → Written
+withExp x d e = record { neg = x .neg; digits = x .digits; after = x .after; base = x .base; down = d; exp = e }
+
 -- At the end of the text: no digits (11), then an exponent without digits (17).
-abbrev pub atEnd : Bool → List ℕ → ℕ → ℕ → Bool → ℕ → Bool → Reading
-atEnd neg ds after base down e seen =
-    cond (eqb (length ds) 0) (unread 11)
-    (cond (not seen) (unread 17)
-    (number (record { neg = neg; digits = ds; after = after; base = base; down = down; exp = e })))
+abbrev pub atEnd : Written → Bool → Reading
+atEnd x seen = cond (eqb (length (x .digits)) 0) (unread 11) (cond (not seen) (unread 17) (number x))
 
 -- A sign may stand first in the number and first in the exponent; elsewhere it is misplaced (12).
 abbrev pub afterSign : List ℕ → List ℕ
@@ -60,32 +71,32 @@ afterSign t = cond (isSign (getD t 0 0)) (drop 1 t) t
 -- `_` after one, and before it `_` is misplaced (14); to the plain reader `_` is a byte with no place.
 module _ (skip : Bool) (radix : ℕ) where
   -- The exponent: no second mark (18), decimal digits up to the limit (19), else a byte with no place (16).
-  unfoldable pub exponentFrom : Bool → List ℕ → ℕ → ℕ → Bool → ℕ → Bool → List ℕ → Reading
-  exponentFrom neg ds after base down e seen [] = atEnd neg ds after base down e seen
-  exponentFrom neg ds after base down e seen (b ∷ t) =
+  unfoldable pub exponentFrom : Written → Bool → List ℕ → Reading
+  exponentFrom x seen [] = atEnd x seen
+  exponentFrom x seen (b ∷ t) =
       cond (isSign b) (unread 12)
       (cond (eqb b 95)
-      (cond skip (cond seen (exponentFrom neg ds after base down e seen t) (unread 14)) (unread 16))
+      (cond skip (cond seen (exponentFrom x seen t) (unread 14)) (unread 16))
       (cond (isMark radix b) (unread 18)
       (cond (not (ltb (digitOf b) 10)) (unread 16)
-      (cond (not (leb (e * 10 + digitOf b) (expLimit down))) (unread 19)
-      (exponentFrom neg ds after base down (e * 10 + digitOf b) true t)))))
+      (cond (not (leb (x .exp * 10 + digitOf b) (expLimit (x .down)))) (unread 19)
+      (exponentFrom (withExp x (x .down) (x .exp * 10 + digitOf b)) true t)))))
 
   -- The digits: one point (15), one mark, digits of the radix, else a byte with no place (13).
-  unfoldable pub digitsFrom : Bool → List ℕ → ℕ → Bool → Bool → List ℕ → Reading
-  digitsFrom neg ds after point seen [] = atEnd neg ds after 1 false 0 true
-  digitsFrom neg ds after point seen (b ∷ t) =
+  unfoldable pub digitsFrom : Written → Bool → Bool → List ℕ → Reading
+  digitsFrom x point seen [] = atEnd x true
+  digitsFrom x point seen (b ∷ t) =
       cond (isSign b) (unread 12)
-      (cond (eqb b 46) (cond point (unread 15) (digitsFrom neg ds after true false t))
+      (cond (eqb b 46) (cond point (unread 15) (digitsFrom x true false t))
       (cond (eqb b 95)
-      (cond skip (cond seen (digitsFrom neg ds after point seen t) (unread 14)) (unread 13))
+      (cond skip (cond seen (digitsFrom x point seen t) (unread 14)) (unread 13))
       (cond (isMark radix b)
-      (exponentFrom neg ds after (cond (isBitMark b) 2 radix) (eqb (getD t 0 0) 45) 0 false (afterSign t))
+      (exponentFrom (withExp (withBase x (cond (isBitMark b) 2 radix)) (eqb (getD t 0 0) 45) 0) false (afterSign t))
       (cond (not (ltb (digitOf b) radix)) (unread 13)
-      (digitsFrom neg (ds ++ (digitOf b ∷ [])) (after + cond point 1 0) point true t)))))
+      (digitsFrom (withDigit x (digitOf b) (cond point 1 0)) point true t)))))
 
 unfoldable pub plainReading : ℕ → List ℕ → Reading
-plainReading radix t = digitsFrom false radix (eqb (getD t 0 0) 45) [] 0 false false (afterSign t)
+plainReading radix t = digitsFrom false radix (blank (eqb (getD t 0 0) 45)) false false (afterSign t)
 
 -- A literal: `-` only for signed formats; then a prefix `0b`, `0o`, `0x` with `_` right after, or else the
 -- radix is 10; then digits as of a text whose sign was read.
@@ -114,7 +125,7 @@ literalRadix s t = prefixRadix (literalBody s t)
 
 unfoldable pub literalReading : Sign → List ℕ → Reading
 literalReading s t =
-    digitsFrom true (literalRadix s t) (literalMinus s t) [] 0 false false (afterPrefix (literalBody s t))
+    digitsFrom true (literalRadix s t) (blank (literalMinus s t)) false false (afterPrefix (literalBody s t))
 
 -- The number written, |t|, as a fraction of naturals: the digits over radix^after, times or over base^exp.
 unfoldable pub natFrom : ℕ → List ℕ → ℕ → ℕ

@@ -9,8 +9,8 @@ use native.Mathlib.Omega.{arith}
 use lib.Dec.{leb, eqb}
 use borrow.Author.Tests.{eqb-true, eqb-false}
 use Rattle.format.specs.Meaning.{Sign, signed, unsigned}
-use Rattle.grammar.specs.Meaning.{isSign, isMark, Written, number, expLimit, plainReading, literalMinus, literalBody, prefixMark, prefixRadix, dropUnderscores, afterPrefix, literalRadix, literalReading, digitOf}
-use Rattle.grammar.specs.Automaton.{isDigit, baseOf, blank, Part, whole, fraction, exponent, Seen, nothing, sign, digit, Scan, at, refuse, Sep, Skip, Error, onSign, onPoint, onUnderscore, onMark, onExpDigit, onOther, step, scan, finish, plainScan, literalScan, readingOf}
+use Rattle.grammar.specs.Meaning.{isSign, isMark, Written, number, expLimit, plainReading, literalMinus, literalBody, prefixMark, prefixRadix, dropUnderscores, afterPrefix, literalRadix, literalReading, digitOf, blank}
+use Rattle.grammar.specs.Automaton.{isDigit, baseOf, Part, whole, fraction, exponent, Seen, nothing, sign, digit, Scan, at, refuse, Sep, Skip, Error, onSign, onPoint, onUnderscore, onMark, onExpDigit, onOther, step, scan, finish, plainScan, literalScan, readingOf}
 use Rattle.grammar.specs.Accepted.{by-test, BaseIs, Sound, Ends, ends-sound, finish-at, number-at, plain-ends, literal-ends}
 use Rattle.grammar.specs.Agrees.{plain-scanned, literal-scanned}
 use Rattle.grammar.specs.Literals.{short-prefix, same-either}

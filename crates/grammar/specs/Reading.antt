@@ -5,8 +5,8 @@ use mathlib.Core.List.{List, [], _∷_}
 use Prim.Native.Nat.{ℕ}
 use lib.Dec.{eqb}
 use lib.ListN.{length}
-use Rattle.grammar.specs.Meaning.{isSign, isMark, Written, Reading, number, unread}
-use Rattle.grammar.specs.Automaton.{baseOf, Part, whole, exponent, Seen, nothing, sign, digit, Scan, at, refuse, blank, withExp, Sep, Skip, Error, step, scan, ended, finish, onSign, onPoint, onUnderscore, onMark, onOther, readingOf}
+use Rattle.grammar.specs.Meaning.{isSign, isMark, Written, Reading, number, unread, blank, withExp}
+use Rattle.grammar.specs.Automaton.{baseOf, Part, whole, exponent, Seen, nothing, sign, digit, Scan, at, refuse, Sep, Skip, Error, step, scan, ended, finish, onSign, onPoint, onUnderscore, onMark, onOther, readingOf}
 use Rattle.grammar.specs.Class.{classOf}
 use Rattle.grammar.specs.Run.{partOf}
 use Rattle.grammar.specs.declared.byte.Class.{Class}

@@ -19,8 +19,7 @@ use Rattle.format.specs.Meaning.{Sign, wrap, settle, withSign, done, refused}
 use Rattle.format.specs.Theorems.{lowest-out, highest-out, wrap-only}
 use Rattle.format.specs.Place.{sign-out}
 use Rattle.format.specs.Far.{far-unfit}
-use Rattle.grammar.specs.Meaning.{Written, num, den, rawOf}
-use Rattle.grammar.specs.Automaton.{withDigit}
+use Rattle.grammar.specs.Meaning.{Written, num, den, rawOf, withDigit}
 use Rattle.grammar.specs.Naturals.{natOf, natFrom-snoc}
 
 -- ---- the fraction decides

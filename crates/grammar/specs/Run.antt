@@ -10,17 +10,13 @@ use lib.Dec.{eqb}
 use lib.ListN.{length, take, drop}
 use borrow.Author.Tests.{eqb-true}
 use Rattle.digits.specs.Meaning.{digitsOf, isUnd}
-use Rattle.grammar.specs.Meaning.{digitOf, Written, isRadix}
-use Rattle.grammar.specs.Automaton.{isDigit, Part, whole, fraction, Seen, digit, at, withDigit, Sep, Skip, Error, step, scan, onOther, onUnderscore}
+use Rattle.grammar.specs.Meaning.{digitOf, Written, isRadix, withDigit}
+use Rattle.grammar.specs.Automaton.{isDigit, Part, whole, fraction, Seen, digit, at, Sep, Skip, Error, step, scan, onOther, onUnderscore}
 use Rattle.grammar.specs.Class.{digit-plain}
 
 -- the digits of a run, as numbers
-unfoldable pub valuesOf : List ℕ → List ℕ
-valuesOf t = map digitOf (digitsOf t)
-
--- a text from a up to e
-abbrev pub part : List ℕ → ℕ → ℕ → List ℕ
-part t a e = take (e - a) (drop a t)
+unfoldable pub digitValues : List ℕ → List ℕ
+digitValues t = map digitOf (digitsOf t)
 
 -- the digits of a stretch of text: those of its bytes other than `_` and the point
 unfoldable pub bodyOf : List ℕ → List ℕ
@@ -59,12 +55,12 @@ seenAfter zero q = q
 seenAfter (suc n) q = digit
 
 -- the digits of a run, from its first byte
-pub values-digit : (b : ℕ) (t : List ℕ) → eqb b 95 ≡ false → valuesOf (b ∷ t) ≡ digitOf b ∷ valuesOf t
-unfolding valuesOf digitsOf isUnd
+pub values-digit : (b : ℕ) (t : List ℕ) → eqb b 95 ≡ false → digitValues (b ∷ t) ≡ digitOf b ∷ digitValues t
+unfolding digitValues digitsOf isUnd
 values-digit b t e = rw e
 
-pub values-under : (b : ℕ) (t : List ℕ) → eqb b 95 ≡ true → valuesOf (b ∷ t) ≡ valuesOf t
-unfolding valuesOf digitsOf isUnd
+pub values-under : (b : ℕ) (t : List ℕ) → eqb b 95 ≡ true → digitValues (b ∷ t) ≡ digitValues t
+unfolding digitValues digitsOf isUnd
 values-under b t e = rw e
 
 pub both : (a b : Bool) → (a && b) ≡ true → (a ≡ true) × (b ≡ true)
@@ -86,8 +82,8 @@ one-digit false x d ds = rw (append-assoc (x .digits) (d ∷ []) ds) (ap (λ (n 
     count : x .after + 0 + 0 ≡ x .after + 0
     count = omega arith
 
-no-values : (p : Bool) (x : Written) → x ≡ withDigits p x (valuesOf [])
-unfolding valuesOf digitsOf
+no-values : (p : Bool) (x : Written) → x ≡ withDigits p x (digitValues [])
+unfolding digitValues digitsOf
 no-values p x = no-digits p x
 
 -- ---- the scan over a run
@@ -111,21 +107,21 @@ module _ (skip : Bool) (radix : ℕ) (legal : isRadix radix ≡ true) where
   pub scan-more :
       (p : Bool) (t : List ℕ) (x : Written) →
       scan (sepOf skip) radix t (at (partOf p) digit x)
-      ≡ scan (sepOf skip) radix (drop (runMore skip radix t) t) (at (partOf p) digit (withDigits p x (valuesOf (take (runMore skip radix t) t))))
+      ≡ scan (sepOf skip) radix (drop (runMore skip radix t) t) (at (partOf p) digit (withDigits p x (digitValues (take (runMore skip radix t) t))))
   unfolding runMore scan
   scan-more p [] x = ap (at (partOf p) digit) (no-values p x)
   scan-more p (b ∷ t) x = go (isDigit radix b) (skip && eqb b 95) refl refl (λ y. scan-more p t y)
     where
       go : (d v : Bool) → isDigit radix b ≡ d → (skip && eqb b 95) ≡ v →
-          ((y : Written) → scan (sepOf skip) radix t (at (partOf p) digit y) ≡ scan (sepOf skip) radix (drop (runMore skip radix t) t) (at (partOf p) digit (withDigits p y (valuesOf (take (runMore skip radix t) t))))) →
+          ((y : Written) → scan (sepOf skip) radix t (at (partOf p) digit y) ≡ scan (sepOf skip) radix (drop (runMore skip radix t) t) (at (partOf p) digit (withDigits p y (digitValues (take (runMore skip radix t) t))))) →
           scan (sepOf skip) radix t (step (sepOf skip) radix b (partOf p) digit x)
           ≡ scan (sepOf skip) radix (drop (cond (d || v) (suc (runMore skip radix t)) 0) (b ∷ t))
-          (at (partOf p) digit (withDigits p x (valuesOf (take (cond (d || v) (suc (runMore skip radix t)) 0) (b ∷ t)))))
+          (at (partOf p) digit (withDigits p x (digitValues (take (cond (d || v) (suc (runMore skip radix t)) 0) (b ∷ t)))))
       go true v e f more =
           ap (scan (sepOf skip) radix t) (digit-step p b digit x e)
           ∙ more (withDigit x (digitOf b) (cond p 1 0))
           ∙ ap (λ (y : Written). scan (sepOf skip) radix (drop (runMore skip radix t) t) (at (partOf p) digit y))
-          (one-digit p x (digitOf b) (valuesOf (take (runMore skip radix t) t)) ∙ ap (withDigits p x) (sym (values-digit b (take (runMore skip radix t) t) (digit-plain radix b legal e .no-under))))
+          (one-digit p x (digitOf b) (digitValues (take (runMore skip radix t) t)) ∙ ap (withDigits p x) (sym (values-digit b (take (runMore skip radix t) t) (digit-plain radix b legal e .no-under))))
       go false true e f more =
           ap (scan (sepOf skip) radix t) (under-step p b x (both skip (eqb b 95) f .0) (eqb-true b 95 (both skip (eqb b 95) f .1)))
           ∙ more x
@@ -137,7 +133,7 @@ module _ (skip : Bool) (radix : ℕ) (legal : isRadix radix ≡ true) where
   pub scan-run :
       (p : Bool) (t : List ℕ) (q : Seen) (x : Written) →
       scan (sepOf skip) radix t (at (partOf p) q x)
-      ≡ scan (sepOf skip) radix (drop (runLen skip radix t) t) (at (partOf p) (seenAfter (runLen skip radix t) q) (withDigits p x (valuesOf (take (runLen skip radix t) t))))
+      ≡ scan (sepOf skip) radix (drop (runLen skip radix t) t) (at (partOf p) (seenAfter (runLen skip radix t) q) (withDigits p x (digitValues (take (runLen skip radix t) t))))
   unfolding runLen scan seenAfter
   scan-run p [] q x = ap (at (partOf p) q) (no-values p x)
   scan-run p (b ∷ t) q x = go (isDigit radix b) refl
@@ -145,10 +141,10 @@ module _ (skip : Bool) (radix : ℕ) (legal : isRadix radix ≡ true) where
       go : (d : Bool) → isDigit radix b ≡ d →
           scan (sepOf skip) radix t (step (sepOf skip) radix b (partOf p) q x)
           ≡ scan (sepOf skip) radix (drop (cond d (suc (runMore skip radix t)) 0) (b ∷ t))
-          (at (partOf p) (seenAfter (cond d (suc (runMore skip radix t)) 0) q) (withDigits p x (valuesOf (take (cond d (suc (runMore skip radix t)) 0) (b ∷ t)))))
+          (at (partOf p) (seenAfter (cond d (suc (runMore skip radix t)) 0) q) (withDigits p x (digitValues (take (cond d (suc (runMore skip radix t)) 0) (b ∷ t)))))
       go true e =
           ap (scan (sepOf skip) radix t) (digit-step p b q x e)
           ∙ scan-more p t (withDigit x (digitOf b) (cond p 1 0))
           ∙ ap (λ (y : Written). scan (sepOf skip) radix (drop (runMore skip radix t) t) (at (partOf p) digit y))
-          (one-digit p x (digitOf b) (valuesOf (take (runMore skip radix t) t)) ∙ ap (withDigits p x) (sym (values-digit b (take (runMore skip radix t) t) (digit-plain radix b legal e .no-under))))
+          (one-digit p x (digitOf b) (digitValues (take (runMore skip radix t) t)) ∙ ap (withDigits p x) (sym (values-digit b (take (runMore skip radix t) t) (digit-plain radix b legal e .no-under))))
       go false e = ap (λ (y : Written). scan (sepOf skip) radix t (step (sepOf skip) radix b (partOf p) q y)) (no-values p x)

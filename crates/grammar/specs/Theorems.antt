@@ -18,20 +18,21 @@ use lib.IntN.{ℤ}
 use lib.ListN.{length, length-append, length-replicate}
 use borrow.Author.Tests.{le-leb, lt-leb, leb-true, leb-false}
 use Rattle.laws.specs.Nearest.{Nearest, nearest, nearest-unique}
+use Rattle.laws.specs.Text.{zeros}
 use Rattle.format.specs.declared.Manner.{Manner}
 use Rattle.format.specs.declared.Manner.the-variants.{Strict, Saturating, Wrapping, Overflowing}
-use Rattle.format.specs.Meaning.{Sign, unsigned, Outcome, done, refused, isWidth, faultOf, unless, fits, wrap, settle, withSign}
+use Rattle.format.specs.Meaning.{Sign, unsigned, Outcome, done, refused, isWidth, faultOf, unless, fits, wrap, settle, withSign, guarded}
 use Rattle.format.specs.Theorems.{InRange, limit, in-fits, settle-fits, strict-refuses, flag-set}
 use Rattle.format.specs.Fault.{fault-free, width-bounds}
 use Rattle.format.specs.Settle.{unless-none}
 use Rattle.format.specs.Place.{within, fits-place}
-use Rattle.grammar.specs.Meaning.{Written, Reading, number, plainReading, literalReading, outcomeOf, afterPrefix, literalMinus, literalBody, literalRadix, num, den, rawOf, textLimit, isRadix, readOf, literalOf}
-use Rattle.grammar.specs.Automaton.{Skip, Error, whole, nothing, sign, at, blank, plainScan, literalScan, readScan}
+use Rattle.grammar.specs.Meaning.{Written, Reading, number, plainReading, literalReading, outcomeOf, afterPrefix, literalMinus, literalBody, literalRadix, num, den, rawOf, textLimit, isRadix, readOf, literalOf, blank}
+use Rattle.grammar.specs.Automaton.{Skip, Error, whole, nothing, sign, at, plainScan, literalScan, readScan}
 use Rattle.grammar.specs.Accepted.{Numbered, Says, says, says-not, says-numbered, plain-ends, literal-ends, radix-two, prefix-legal, sound-base}
 use Rattle.grammar.specs.Agrees.{plain-says, literal-says, scanOf, literalScanOf, read-scan-of, literal-scan-of}
 use Rattle.grammar.specs.Pointed.{plain-fraction, literal-fraction}
 use Rattle.grammar.specs.Rounding.{den-pos, same-fraction, ByRadix, upward, downward, same-place}
-use Rattle.grammar.specs.Appended.{zeros, zeros-same, minus-zeros, body-zeros, prefix-zeros, after-zeros}
+use Rattle.grammar.specs.Appended.{zeros-same, minus-zeros, body-zeros, prefix-zeros, after-zeros}
 use Rattle.grammar.specs.Literals.{plainText, plain-length, Opens, literal-number, literal-same, number-opens}
 
 -- The plain reader takes t for the number x: no refusal applies to the format, the radix and the length, and the scan ends with x.
@@ -158,7 +159,7 @@ module _ (w f radix : ℕ) (t : List ℕ) {o : Outcome} (later : (n : ℕ) → o
   checked = unless (faultOf w f) (cond (isRadix radix) (cond (leb (length t) textLimit) o (refused 4)) (refused 3))
 
   early-iff : (n : ℕ) → n < 10 → (checked ≡ refused n) ↔ Early w f radix t n
-  unfolding faultOf unless
+  unfolding faultOf guarded
   early-iff n h = (go (isWidth w) (leb f w) (isRadix radix) (leb (length t) textLimit) refl refl refl refl, back)
     where
       go : (a b c d : Bool) → isWidth w ≡ a → leb f w ≡ b → isRadix radix ≡ c → leb (length t) textLimit ≡ d

@@ -1,7 +1,5 @@
 // What a text means (docs/GRAMMAR.md): the radixes, the longest text, the classes of bytes, and the numbers of the refusals.
-
-ghost use mathlib.Core.Path.{_≡_};
-ghost use Rattle.grammar.specs.Meaning.{isRadix};
+ghost use Rattle.grammar.specs.Promise.{IsRadix};
 
 pub mod byte;
 pub mod refusal;
@@ -11,7 +9,7 @@ pub const TEXT_LIMIT: usize = 4096;
 
 // Whether a radix is one of the four.
 pub fn is_radix(radix: u32) -> bool
-    ensures { λ r. ⌜ r ≡ isRadix radix ⌝ }
+    ensures { λ r. ⌜ IsRadix radix r ⌝ }
 {
     if radix == 2 {
         return true;

@@ -8,12 +8,10 @@ use lib.IntN.{ℤ, pos, negsuc}
 use lib.ListN.{length, replicate}
 use lib.Signed.{ltZ}
 use Rattle.format.specs.declared.UnsignedAnswer.the-variants.{Done, Refused}
-use Rattle.format.specs.Meaning.{lowest, highest}
+use Rattle.format.specs.Meaning.{lowest, highest, guarded}
 use Rattle.filter.specs.Meaning.{mostTaps, sumOf, rounded, levelOf, tapsFault}
-use Rattle.filter.specs.Promise.{unless}
 use Rattle.headroom.specs.declared.peak.Way.the-variants.{High, Low}
-use Rattle.headroom.specs.Meaning.{bySign, drivenOf, driving, passes, clipsWay, verdictOf, witnessOf, headFault}
-use Rattle.headroom.specs.Promise.{headed, headroomOf}
+use Rattle.headroom.specs.Meaning.{bySign, drivenOf, driving, passes, clipsWay, verdictOf, witnessOf, headFault, headed, headroomOf}
 
 -- -32768, and a list of zeros
 abbrev low : ℤ
@@ -35,7 +33,7 @@ pub headroom-cases :
     × (Headroom (pos 32767 ∷ pos 2 ∷ []) 2 (low ∷ low ∷ [])
     × ((sumOf (pos 32767 ∷ pos 2 ∷ []) (driving High (pos 32767 ∷ pos 2 ∷ [])) ≡ pos (2 ^ 30 - 1))
     × (ltZ (sumOf (pos 32767 ∷ pos 2 ∷ []) (driving Low (pos 32767 ∷ pos 2 ∷ []))) (negsuc (2 ^ 30 - 1)) ≡ true)))))
-unfolding headroomOf unless headFault tapsFault verdictOf witnessOf clipsWay levelOf sumOf rounded drivenOf bySign passes lowest highest
+unfolding headroomOf guarded headFault tapsFault verdictOf witnessOf clipsWay levelOf sumOf rounded drivenOf bySign passes lowest highest
 headroom-cases = (refl, (refl, (refl, (refl, (refl, refl)))))
 
 -- no taps; one too many; a place too few, which goes first
@@ -44,7 +42,7 @@ pub refusal-cases :
     × (Refusal (zeros (mostTaps + 1)) (mostTaps + 1) 40
     × (Refusal (pos 1 ∷ []) 2 5
     × Refusal [] 1 5))
-unfolding headroomOf unless headFault tapsFault
+unfolding headroomOf guarded headFault tapsFault
 refusal-cases = (refl, (refl, (refl, refl)))
 
 -- a zero tap has the sample 0; signs matter: 16384 and -16384 reach 2^30 - 2^14 and no further, which is 32767 when rounded down
@@ -52,5 +50,5 @@ pub sign-cases :
     Headroom (low ∷ pos 0 ∷ low ∷ []) 1 (low ∷ pos 0 ∷ low ∷ [])
     × (Headroom (pos 32767 ∷ negsuc 32766 ∷ []) 1 (pos 32767 ∷ low ∷ [])
     × Headroom (pos 16384 ∷ negsuc 16383 ∷ []) 0 (zeros 2))
-unfolding headroomOf unless headFault tapsFault verdictOf witnessOf clipsWay levelOf sumOf rounded drivenOf bySign passes lowest highest
+unfolding headroomOf guarded headFault tapsFault verdictOf witnessOf clipsWay levelOf sumOf rounded drivenOf bySign passes lowest highest
 sign-cases = (refl, (refl, refl))

@@ -1,12 +1,15 @@
 -- The headroom check over lists of integers: document 01, module 8. It stands on the meaning of the filter: what the taps make of samples is its level.
 -- Assumes nothing.
-use mathlib.Core.Bool.{Bool, cond}
+use mathlib.Core.Bool.{Bool, false, cond}
 use mathlib.Core.List.{List, map}
 use Prim.Native.Nat.{ℕ}
 use lib.Dec.{eqb}
 use lib.IntN.{ℤ, pos}
+use lib.ListN.{length}
 use lib.Signed.{ltZ}
-use Rattle.format.specs.Meaning.{signed, lowest, highest}
+use Rattle.format.specs.declared.UnsignedAnswer.{UnsignedAnswer}
+use Rattle.format.specs.declared.UnsignedAnswer.the-variants.{Done as DoneU, Refused as RefusedU}
+use Rattle.format.specs.Meaning.{signed, lowest, highest, guarded}
 use Rattle.filter.specs.Meaning.{levelOf, tapsFault}
 use Rattle.headroom.specs.declared.peak.Way.{Way}
 use Rattle.headroom.specs.declared.peak.Way.the-variants.{High, Low}
@@ -43,3 +46,17 @@ witnessOf taps before = cond (clipsWay High taps) (driving High taps) (cond (cli
 -- What is refused: "lists of unequal length" is 5, before what the filter refuses of the taps; 0 where nothing is.
 unfoldable pub headFault : ℕ → ℕ → ℕ
 headFault n places = cond (eqb n places) (tapsFault n) 5
+
+-- What the call leaves: the verdict, and the witness.
+pub record Headed : Type 0 where
+  pub answer : UnsignedAnswer
+  pub witness : List ℤ
+
+abbrev pub headed : UnsignedAnswer → List ℤ → Headed
+headed answer witness = record { answer = answer; witness = witness }
+
+unfoldable pub headroomOf : List ℤ → List ℤ → Headed
+headroomOf taps witness =
+    guarded (headFault (length taps) (length witness))
+    (λ n. headed (RefusedU n) witness)
+    (headed (DoneU (verdictOf taps) false) (witnessOf taps witness))

@@ -9,16 +9,16 @@ use lib.IntN.{ℤ}
 use lib.ListN.{length, length-map}
 use Rattle.format.specs.declared.UnsignedAnswer.the-variants.{Done as DoneU, Refused as RefusedU}
 use Rattle.filter.specs.declared.State.{State}
-use Rattle.filter.specs.Meaning.{mostTaps, history, silence, sumOf, after, clipsOf, runOf, clipped, blockFault}
-use Rattle.filter.specs.Promise.{Ran, ran, done, ranOf, Runs}
+use Rattle.filter.specs.Meaning.{mostTaps, history, silence, sumOf, historyAfter, clipsOf, runOf, clipped, blockFault, Ran, ran, ranDone, ranOf}
+use Rattle.filter.specs.Promise.{Runs}
 use Rattle.filter.specs.Refuse.{which}
 use Rattle.filter.specs.Range.{Samples, samples-after, samples-reverse, samples-zeros}
 use Rattle.headroom.specs.declared.peak.Way.{Way}
 use Rattle.headroom.specs.declared.peak.Way.the-variants.{High, Low}
 use Rattle.headroom.specs.Ends.{Ends, ends-clipped}
 use Rattle.headroom.specs.Verdict.{driving-samples, fed, Told, high, low, neither, told, drives, spares, quiet}
-use Rattle.headroom.specs.Meaning.{headFault, drivenOf, driving, clipsWay, verdictOf, witnessOf}
-use Rattle.headroom.specs.Promise.{Headed, headed, headroomOf, Heads}
+use Rattle.headroom.specs.Meaning.{headFault, drivenOf, driving, clipsWay, verdictOf, witnessOf, Headed, headed, headroomOf}
+use Rattle.headroom.specs.Promise.{Heads}
 use Rattle.headroom.specs.Head.{head-fit}
 use Rattle.headroom.specs.Drive.{Within, sum-within}
 
@@ -26,7 +26,7 @@ use Rattle.headroom.specs.Drive.{Within, sum-within}
 -- no samples, from any state of samples, drive the sum further; and the bound is attained
 pub furthest : (way : Way) (taps h xs : List ℤ) → Samples h → Samples xs → Within way (sumOf taps (runOf taps h xs .final)) (sumOf taps (driving way taps))
 unfolding runOf
-furthest way taps h xs s k = sum-within way taps (after h xs) (samples-after h xs s k)
+furthest way taps h xs s k = sum-within way taps (historyAfter h xs) (samples-after h xs s k)
 
 pub attained : (way : Way) (taps h : List ℤ) → length taps ≤ mostTaps → length h ≤ mostTaps → sumOf taps (runOf taps h (reverse (driving way taps)) .final) ≡ sumOf taps (driving way taps)
 unfolding runOf
@@ -141,7 +141,7 @@ run-done : (taps : List ℤ) (state state' : State) (samples outputs outputs' : 
 unfolding ranOf
 run-done taps state state' samples outputs outputs' marks marks' n p = pick (which _ _ _ p)
   where
-    pick : ((blockFault (length taps) (length samples) (length outputs) (length marks) ≡ 0) × (ran (DoneU n false) state' outputs' marks' ≡ done (runOf taps (history state) samples)))
+    pick : ((blockFault (length taps) (length samples) (length outputs) (length marks) ≡ 0) × (ran (DoneU n false) state' outputs' marks' ≡ ranDone (runOf taps (history state) samples)))
         ⊎ (ran (DoneU n false) state' outputs' marks' ≡ ran (RefusedU (blockFault (length taps) (length samples) (length outputs) (length marks))) state outputs marks)
         → n ≡ clipped (runOf taps (history state) samples .flags)
     pick (inl h) = same-value (ap (λ (r : Ran). r .answer) (h .1))

@@ -7,7 +7,7 @@ use native.Mathlib.Omega.{arith}
 use lib.IntN.{ℤ}
 use lib.ListN.{length, take, length-map, length-reverse}
 use lib.Seq.{take-take, take-at}
-use Rattle.filter.specs.Meaning.{mostTaps, next, sumOf, levelOf, clipOf, after, clipsOf, runOf, bitOf, clipped}
+use Rattle.filter.specs.Meaning.{mostTaps, next, sumOf, levelOf, clipOf, historyAfter, clipsOf, runOf, bitOf, clipped}
 use Rattle.filter.specs.Range.{Samples, none, more, samples-after, samples-next}
 use Rattle.filter.specs.Rounding.{rounded-zero}
 use Rattle.filter.specs.Run.{after-is}
@@ -24,11 +24,11 @@ driving-samples way [] = none
 driving-samples way (t ∷ ts) = more (driven-sample way t) (driving-samples way ts)
 
 -- fed oldest first, from any state, they are what the taps meet
-pub fed : (taps w h : List ℤ) → length w ≡ length taps → length taps ≤ mostTaps → length h ≤ mostTaps → sumOf taps (after h (reverse w)) ≡ sumOf taps w
+pub fed : (taps w h : List ℤ) → length w ≡ length taps → length taps ≤ mostTaps → length h ≤ mostTaps → sumOf taps (historyAfter h (reverse w)) ≡ sumOf taps w
 fed taps w h e few k =
-    let whole : after h (reverse w) ≡ take mostTaps (w ++ h) = after-is h (reverse w) k ∙ rw reverse-reverse in
+    let whole : historyAfter h (reverse w) ≡ take mostTaps (w ++ h) = after-is h (reverse w) k ∙ rw reverse-reverse in
     let part : take (length taps) (take mostTaps (w ++ h)) ≡ w = take-take (length taps) mostTaps (w ++ h) few ∙ take-at w h (length taps) e in
-    sym (sum-take taps (after h (reverse w))) ∙ (rw (whole, part))
+    sym (sum-take taps (historyAfter h (reverse w))) ∙ (rw (whole, part))
 
 -- which way the driving samples clip, and the verdict for it
 pub data Told (taps : List ℤ) : Type 0 where
@@ -63,7 +63,7 @@ drives way (t ∷ ts) h few k c =
 
 -- where the driving samples do not clip that way, no run ends so
 pub spares : (way : Way) (taps h xs : List ℤ) → clipsWay way taps ≡ false → Samples h → Samples xs → Ends way (runOf taps h xs) → ⊥
-spares way taps h xs c s k e = absurd (false≢true (sym (never-passes way taps (after h xs) (samples-after h xs s k) c) ∙ ends-past way taps h xs e))
+spares way taps h xs c s k e = absurd (false≢true (sym (never-passes way taps (historyAfter h xs) (samples-after h xs s k) c) ∙ ends-past way taps h xs e))
 
 pub quiet : (taps h xs : List ℤ) → clipsWay High taps ≡ false → clipsWay Low taps ≡ false → Samples h → Samples xs → clipped (clipsOf taps h xs) ≡ 0
 unfolding clipsOf clipped bitOf clipOf

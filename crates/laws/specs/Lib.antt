@@ -10,3 +10,4 @@ pub mod Rules
 pub mod Signed
 pub mod Tests
 pub mod Text
+pub mod Unique

@@ -12,18 +12,18 @@ use borrow.Author.Tests.{ne-eqb}
 use Rattle.laws.specs.Diff.{orders}
 use Rattle.laws.specs.Bound.{sfits-out}
 use Rattle.format.specs.declared.SignedAnswer.the-variants.{Done, Refused}
-use Rattle.format.specs.Meaning.{faultOf, unless, signedAnswer}
+use Rattle.format.specs.Meaning.{faultOf, signedAnswer, guarded}
 use Rattle.log10.specs.Meaning.{log10Of, positiveOnly, log10Outcome}
 use Rattle.log10.specs.Promise.{SignedLog10}
 
 -- "1, 2 .. in this order" go before the rest
 pub refused-format : (raw : ℤ) (w f : ℕ) {n : ℕ} → n ≡ faultOf w f → (n ≡ 0 → ⊥) → SignedLog10 raw w f (Refused n)
-unfolding log10Outcome unless signedAnswer
+unfolding log10Outcome guarded signedAnswer
 refused-format raw w f {n} e h = rw (sym e, ne-eqb n 0 h)
 
 -- with no fault the answer is that of the number alone
 of-number : (raw : ℤ) (w f : ℕ) {n : ℕ} → n ≡ faultOf w f → n ≡ 0 → log10Outcome raw w f ≡ positiveOnly raw f
-unfolding log10Outcome unless
+unfolding log10Outcome guarded
 of-number raw w f {n} e h = rw (sym e, h)
 
 pub refused-number : (raw : ℤ) (w f : ℕ) {n : ℕ} → n ≡ faultOf w f → n ≡ 0 → raw ≤ℤ pos 0 → SignedLog10 raw w f (Refused 32)

@@ -6,7 +6,7 @@ use mathlib.Core.List.{List, [], _∷_}
 use Prim.Native.Nat.{ℕ, zero, suc, _-_, _^_}
 use lib.IntN.{pos, negℤ}
 use lib.ListN.{replicate}
-use Rattle.format.specs.Meaning.{Outcome, done, refused, isWidth, faultOf, unless}
+use Rattle.format.specs.Meaning.{Outcome, done, refused, isWidth, faultOf, guarded}
 use Rattle.log10.specs.Meaning.{reaches, downFrom, log10Of, positiveOnly, log10Outcome}
 
 abbrev minus : ℕ → Outcome
@@ -52,7 +52,7 @@ pub record Cases : Type 0 where
   pub frac-first : log10Outcome (pos 0) 8 9 ≡ refused 2
 
 pub cases : Cases
-unfolding reaches downFrom log10Of positiveOnly log10Outcome isWidth faultOf unless
+unfolding reaches downFrom log10Of positiveOnly log10Outcome isWidth faultOf guarded
 cases =
     record {
       raws-1-2 = refl;

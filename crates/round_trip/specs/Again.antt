@@ -13,7 +13,7 @@ use Rattle.format.specs.declared.SignedAnswer.{SignedAnswer}
 use Rattle.format.specs.declared.SignedAnswer.the-variants.{Done as DoneS, Refused as RefusedS}
 use Rattle.format.specs.declared.UnsignedAnswer.{UnsignedAnswer}
 use Rattle.format.specs.declared.UnsignedAnswer.the-variants.{Done as DoneU, Refused as RefusedU}
-use Rattle.format.specs.Meaning.{Sign, signed, unsigned, faultOf, unless, done, signedAnswer, unsignedAnswer}
+use Rattle.format.specs.Meaning.{Sign, signed, unsigned, faultOf, done, signedAnswer, unsignedAnswer, guarded}
 use Rattle.format.specs.Theorems.{InRange}
 use Rattle.grammar.specs.Meaning.{readOf}
 use Rattle.decimal.specs.Meaning.{rawText, put, writeOf}
@@ -27,8 +27,8 @@ pub record Fine (s : Sign) (raw : ℤ) (w f : ℕ) (out : List ℕ) : Type 0 whe
   pub room : length (rawText raw f) ≤ length out
 
 -- then: the raw again
-abbrev pub Same : ℤ → ℕ → ℕ → List ℕ → SignedAnswer → Type 0
-Same raw w f out r = Fine signed raw w f out → r ≡ DoneS raw false
+abbrev pub SameSigned : ℤ → ℕ → ℕ → List ℕ → SignedAnswer → Type 0
+SameSigned raw w f out r = Fine signed raw w f out → r ≡ DoneS raw false
 
 abbrev pub SameUnsigned : ℕ → ℕ → ℕ → List ℕ → UnsignedAnswer → Type 0
 SameUnsigned raw w f out r = Fine unsigned (pos raw) w f out → r ≡ DoneU raw false
@@ -54,17 +54,17 @@ module _ (raw : ℤ) (w f : ℕ) (out : List ℕ) {told : ℤ} {a : UnsignedAnsw
   reads : (s : Sign) (k : Manner) (n : ℕ) (flag : Bool) → a ≡ DoneU n flag → InRange s w raw → readOf k s w f 10 (take n left) ≡ done raw false
   reads s k n flag e range = written-reads raw w f out left n flag k s (subst (λ (x : UnsignedAnswer). WriteSigned raw w f out x left) e wrote) range
 
-  pub read-again : (k : Manner) {n : ℕ} {flag : Bool} {r : SignedAnswer} → a ≡ DoneU n flag → ReadBack left n w f k r → Same raw w f out r
+  pub read-again : (k : Manner) {n : ℕ} {flag : Bool} {r : SignedAnswer} → a ≡ DoneU n flag → ReadBack left n w f k r → SameSigned raw w f out r
   unfolding signedAnswer
   read-again k {n} {flag} e q fine = q ∙ ap signedAnswer (reads signed k n flag e (fine .holds))
 
   refused-never : (s : Sign) (n : ℕ) → a ≡ RefusedU n → Fine s raw w f out → _≡_ {A = ℕ} 0 1
-  unfolding writeOf put unless unsignedAnswer
+  unfolding writeOf put guarded unsignedAnswer
   refused-never s n e fine =
       let clash : RefusedU n ≡ DoneU (length (rawText raw f)) false = sym e ∙ wrote .0 ∙ simp (eq-eqb (faultOf w f) 0 (fine .format), le-leb (length (rawText raw f)) (length out) (fine .room)) in
       cc
 
-  pub never-refused : {n : ℕ} → a ≡ RefusedU n → Same raw w f out (RefusedS n)
+  pub never-refused : {n : ℕ} → a ≡ RefusedU n → SameSigned raw w f out (RefusedS n)
   never-refused {n} e fine =
       let z = refused-never signed n e fine in
       absurd (omega (arith, z))

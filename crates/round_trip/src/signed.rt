@@ -1,12 +1,12 @@
 // Writing a raw of a signed format, then reading: the same raw.
-ghost use Rattle.round_trip.specs.Again.{Same, ReadBack};
+ghost use Rattle.round_trip.specs.Again.{SameSigned, ReadBack};
 use format::Manner;
 use format::SignedAnswer;
 use format::UnsignedAnswer;
 
 // The raw written into `out` and read back; the writer's refusal where it refuses.
 pub fn again(raw: i64, width: u32, frac: u32, manner: Manner, out: &mut [u8]) -> SignedAnswer
-    ensures { λ r. ⌜ Same raw width frac (now (out .entry)) r ⌝ }
+    ensures { λ r. ⌜ SameSigned raw width frac (now (out .entry)) r ⌝ }
 {
     let written = decimal::signed::write(raw, width, frac, out);
     match written {

@@ -10,12 +10,13 @@ use lib.ListN.{length, take, drop, getD, drop-of-length-le}
 use lib.Seq.{drop-cons}
 use Rattle.digits.specs.Meaning.{digitsOf}
 use Rattle.grammar.specs.Automaton.{isDigit}
-use Rattle.grammar.specs.Run.{part, inRun, runMore, runLen}
+use Rattle.laws.specs.Lists.{part}
+use Rattle.grammar.specs.Run.{inRun, runMore, runLen}
 use Rattle.run.specs.declared.Run.{Run}
 
 -- from its first digit on, if one stands there, with the number of its digits
-unfoldable pub runOf : List ℕ → ℕ → ℕ → Bool → Run
-runOf t from radix skip =
+unfoldable pub runAt : List ℕ → ℕ → ℕ → Bool → Run
+runAt t from radix skip =
     record {
       from = from;
       to = from + runLen skip radix (drop from t);
@@ -83,13 +84,13 @@ module _ (t : List ℕ) (from radix : ℕ) (skip : Bool) where
   len-past h = rw (drop-of-length-le t h)
 
   -- the code's record is the run
-  run-is : (to n : ℕ) → to ≡ from + runLen skip radix (drop from t) → n ≡ length (digitsOf (part t from to)) → _≡_ {A = Run} (record { from = from; to = to; digits = n }) (runOf t from radix skip)
-  unfolding runOf
+  run-is : (to n : ℕ) → to ≡ from + runLen skip radix (drop from t) → n ≡ length (digitsOf (part t from to)) → _≡_ {A = Run} (record { from = from; to = to; digits = n }) (runAt t from radix skip)
+  unfolding runAt
   run-is to n e q =
       ap (λ (k : ℕ). record { from = from; to = to; digits = k }) q
       ∙ ap (λ (k : ℕ). record { from = from; to = k; digits = length (digitsOf (part t from k)) }) e
 
-  empty-run : runLen skip radix (drop from t) ≡ 0 → _≡_ {A = Run} (record { from = from; to = from; digits = 0 }) (runOf t from radix skip)
+  empty-run : runLen skip radix (drop from t) ≡ 0 → _≡_ {A = Run} (record { from = from; to = from; digits = 0 }) (runAt t from radix skip)
   unfolding digitsOf
   empty-run e =
       let z : from - from ≡ 0 = omega arith in
@@ -97,11 +98,11 @@ module _ (t : List ℕ) (from radix : ℕ) (skip : Bool) where
 
   pub run-some :
       {to n : ℕ} {d : Bool} → from < length t → d ≡ isDigit radix (getD t from 0) → d ≡ true → to ≡ from + 1 + runMore skip radix (drop (from + 1) t) →
-      n ≡ length (digitsOf (part t from to)) → _≡_ {A = Run} (record { from = from; to = to; digits = n }) (runOf t from radix skip)
+      n ≡ length (digitsOf (part t from to)) → _≡_ {A = Run} (record { from = from; to = to; digits = n }) (runAt t from radix skip)
   run-some {to} {n} h e g q c = run-is to n (omega (arith, len-some h (sym e ∙ g))) c
 
-  pub run-none : {d : Bool} → from < length t → d ≡ isDigit radix (getD t from 0) → d ≡ false → _≡_ {A = Run} (record { from = from; to = from; digits = 0 }) (runOf t from radix skip)
+  pub run-none : {d : Bool} → from < length t → d ≡ isDigit radix (getD t from 0) → d ≡ false → _≡_ {A = Run} (record { from = from; to = from; digits = 0 }) (runAt t from radix skip)
   run-none h e g = empty-run (len-none h (sym e ∙ g))
 
-  pub run-past : length t ≤ from → _≡_ {A = Run} (record { from = from; to = from; digits = 0 }) (runOf t from radix skip)
+  pub run-past : length t ≤ from → _≡_ {A = Run} (record { from = from; to = from; digits = 0 }) (runAt t from radix skip)
   run-past h = empty-run (len-past h)

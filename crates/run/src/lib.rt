@@ -3,7 +3,7 @@ ghost use mathlib.Core.Path.{_≡_};
 ghost use Prim.Native.Nat.{_+_, _≤_};
 ghost use lib.ListN.{length, drop};
 ghost use Rattle.grammar.specs.Run.{inRun, runMore};
-ghost use Rattle.run.specs.Run.{runOf};
+ghost use Rattle.run.specs.Run.{runAt};
 use grammar::byte;
 
 // A run of digits in the text, and how many digits it has (`_` do not count).
@@ -45,7 +45,7 @@ fn run_end(text: &[u8], from: usize, radix: u32, skip: bool) -> usize
 // The run at `from`, which has no digits where no digit stands there.
 pub fn run_at(text: &[u8], from: usize, radix: u32, skip: bool) -> Run
     requires { ⌜ from ≤ length (now text) ⌝ }
-    ensures { λ r. ⌜ r ≡ runOf (now (text .entry)) from radix skip ⌝ }
+    ensures { λ r. ⌜ r ≡ runAt (now (text .entry)) from radix skip ⌝ }
 {
     if from < text.len() {
         if byte::is_digit(text[from], radix) {

@@ -5,8 +5,8 @@ use mathlib.Core.List.{List, _∷_}
 use Prim.Native.Nat.{ℕ, zero, suc}
 use native.Mathlib.Omega.{arith}
 use lib.Dec.{eqb}
-use Rattle.grammar.specs.Meaning.{isSign, isMark, Written, Reading, unread}
-use Rattle.grammar.specs.Automaton.{isDigit, baseOf, whole, fraction, exponent, Seen, nothing, Scan, at, refuse, withBase, step, scan, onSign, onPoint, onUnderscore, onMark, onOther}
+use Rattle.grammar.specs.Meaning.{isSign, isMark, Written, Reading, unread, withBase}
+use Rattle.grammar.specs.Automaton.{isDigit, baseOf, whole, fraction, exponent, Seen, nothing, Scan, at, refuse, step, scan, onSign, onPoint, onUnderscore, onMark, onOther}
 use Rattle.grammar.specs.Class.{classOf}
 use Rattle.grammar.specs.Run.{sepOf, partOf, seenAfter}
 use Rattle.grammar.specs.Reading.{reading, onClass, read-next, read-refused, opened}

@@ -9,10 +9,11 @@ use lib.Dec.{eqb}
 use lib.ListN.{length, drop, getD, drop-of-length-le, length-append}
 use lib.Seq.{drop-cons}
 use borrow.Author.Tests.{eq-eqb, ne-eqb, eqb-true, eqb-false}
-use Rattle.grammar.specs.Meaning.{isSign, Written, Reading, number, unread}
-use Rattle.grammar.specs.Automaton.{withExp, at, exponent, nothing, sign}
+use Rattle.grammar.specs.Meaning.{isSign, Written, Reading, number, unread, withExp}
+use Rattle.grammar.specs.Automaton.{at, exponent, nothing, sign}
 use Rattle.grammar.specs.Reading.{reading, expAt, expEnd, read-exp-end, read-refused, signFirst, read-exponent-sign, read-exponent-unsigned}
-use Rattle.grammar.specs.Run.{sepOf, valuesOf, bodyOf, part}
+use Rattle.laws.specs.Lists.{part}
+use Rattle.grammar.specs.Run.{sepOf, digitValues, bodyOf}
 use Rattle.grammar.specs.declared.byte.Class.{Class}
 use Rattle.grammar.specs.declared.byte.Class.the-variants.{Sign, Point, Underscore, Mark, Other}
 use Rattle.run.specs.declared.Run.{Run}
@@ -25,16 +26,16 @@ use Rattle.scan.specs.declared.Found.{Found}
 use Rattle.scan.specs.declared.Found.the-variants.{Number, Refused}
 
 -- the digits of a run
-abbrev pub spanOf : List ℕ → Run → List ℕ
-spanOf t r = valuesOf (part t (r .from) (r .to))
+abbrev pub runDigits : List ℕ → Run → List ℕ
+runDigits t r = digitValues (part t (r .from) (r .to))
 
 -- the number that the places stand for
 unfoldable pub writtenOf : List ℕ → Parsed → Written
 writtenOf t p =
     record {
       neg = p .neg;
-      digits = spanOf t (p .whole) ++ spanOf t (p .frac);
-      after = length (spanOf t (p .frac));
+      digits = runDigits t (p .whole) ++ runDigits t (p .frac);
+      after = length (runDigits t (p .frac));
       base = p .base;
       down = p .down;
       exp = p .exp;
@@ -42,7 +43,7 @@ writtenOf t p =
 
 -- the whole part alone
 abbrev pub wholeOf : List ℕ → Bool → Run → Written
-wholeOf t neg r = record { neg = neg; digits = spanOf t r; after = 0; base = 1; down = false; exp = 0 }
+wholeOf t neg r = record { neg = neg; digits = runDigits t r; after = 0; base = 1; down = false; exp = 0 }
 
 -- the ends of a text, before the mark and after it
 unfoldable pub noDigits : Parsed → Bool
@@ -65,13 +66,13 @@ expEndOf p seen e = cond (noDigits p) (Refused 11) (cond seen (Number (withExpon
 
 -- a run's count is that of its digits
 abbrev pub Counted : List ℕ → Run → Type 0
-Counted t r = r .digits ≡ length (spanOf t r)
+Counted t r = r .digits ≡ length (runDigits t r)
 
 -- From the first digit of a number to the last there is one stretch of text, which has the digits of both runs.
 pub record Stretch (t : List ℕ) (w f : Run) : Type 0 where
   pub start : w .from ≤ f .to
   pub end : f .to ≤ length t
-  pub both : bodyOf (part t (w .from) (f .to)) ≡ spanOf t w ++ spanOf t f
+  pub both : bodyOf (part t (w .from) (f .to)) ≡ runDigits t w ++ runDigits t f
 
 -- what is carried from part to part
 pub record Ready (t : List ℕ) (p : Parsed) : Type 0 where
@@ -141,8 +142,8 @@ module _ (t : List ℕ) (p : Parsed) (ready : Ready t p) where
   unfolding noDigits writtenOf
   no-digits-is =
       ap₂ (λ (a b : ℕ). eqb a 0 && eqb b 0) (ready .whole-counted) (ready .frac-counted)
-      ∙ none-both (length (spanOf t (p .whole))) (length (spanOf t (p .frac)))
-      ∙ ap (λ (n : ℕ). eqb n 0) (sym (length-append (spanOf t (p .whole)) (spanOf t (p .frac))))
+      ∙ none-both (length (runDigits t (p .whole))) (length (runDigits t (p .frac)))
+      ∙ ap (λ (n : ℕ). eqb n 0) (sym (length-append (runDigits t (p .whole)) (runDigits t (p .frac))))
 
   exp-written : (e : ℕ) → number (withExp (writtenOf t p) (writtenOf t p .down) e) ≡ number (writtenOf t (withExponent p e))
   unfolding writtenOf

@@ -11,8 +11,8 @@ use lib.Seq.{drop-cons, drop-drop}
 use borrow.Author.Tests.{eq-eqb, ne-eqb}
 use Rattle.laws.specs.Lists.{no-length}
 use Rattle.format.specs.Meaning.{Sign, signed, unsigned}
-use Rattle.grammar.specs.Meaning.{prefixMark, prefixRadix, dropUnderscores, afterPrefix, literalMinus, literalBody, literalRadix, literalReading, isRadix}
-use Rattle.grammar.specs.Automaton.{literalScan, at, whole, sign, blank, Skip}
+use Rattle.grammar.specs.Meaning.{prefixMark, prefixRadix, dropUnderscores, afterPrefix, literalMinus, literalBody, literalRadix, literalReading, isRadix, blank}
+use Rattle.grammar.specs.Automaton.{literalScan, at, whole, sign, Skip}
 use Rattle.grammar.specs.Reading.{reading}
 use Rattle.grammar.specs.Run.{sepOf}
 use Rattle.grammar.specs.Accepted.{prefix-legal}
@@ -22,9 +22,9 @@ use Rattle.scan.specs.Found.{Finds, finds-by}
 use Rattle.scan.specs.declared.literal.Written.{Written as LiteralWritten}
 use Rattle.scan.specs.declared.Found.{Found}
 
-abbrev pub signOf : Bool → Sign
-signOf true = signed
-signOf false = unsigned
+abbrev pub literalSign : Bool → Sign
+literalSign true = signed
+literalSign false = unsigned
 
 abbrev pub startOf : Bool → ℕ
 startOf neg = cond neg 1 0
@@ -35,17 +35,17 @@ pub record FindsLiteral (s : Sign) (t : List ℕ) (r : LiteralWritten) : Type 0 
 
 -- ---- the sign
 module _ (t : List ℕ) where
-  pub minus-empty : (s : Bool) → length t ≡ 0 → false ≡ literalMinus (signOf s) t
+  pub minus-empty : (s : Bool) → length t ≡ 0 → false ≡ literalMinus (literalSign s) t
   unfolding literalMinus
   minus-empty true h = sym (ap (literalMinus signed) (no-length t h))
   minus-empty false h = refl
 
-  pub minus-signed : (s : Bool) → s ≡ true → eqb (getD t 0 0) 45 ≡ literalMinus (signOf s) t
+  pub minus-signed : (s : Bool) → s ≡ true → eqb (getD t 0 0) 45 ≡ literalMinus (literalSign s) t
   unfolding literalMinus
   minus-signed true e = refl
   minus-signed false e = absurd (false≢true e)
 
-  pub minus-unsigned : (s : Bool) → s ≡ false → false ≡ literalMinus (signOf s) t
+  pub minus-unsigned : (s : Bool) → s ≡ false → false ≡ literalMinus (literalSign s) t
   unfolding literalMinus
   minus-unsigned true e = absurd (true≢false e)
   minus-unsigned false e = refl
@@ -109,28 +109,28 @@ module _ (t : List ℕ) (from radix : ℕ) (e : radix ≡ prefixRadix (drop from
       ∙ sym (ap (λ (g : Bool). cond g (drop from t) (dropUnderscores (drop 2 (drop from t)))) (ne-eqb (prefixRadix (drop from t)) 10 (λ z. h (e ∙ z))))
 
 -- ---- the whole literal
-minus-some : (s : Bool) (t : List ℕ) → literalMinus (signOf s) t ≡ true → 1 ≤ length t
+minus-some : (s : Bool) (t : List ℕ) → literalMinus (literalSign s) t ≡ true → 1 ≤ length t
 unfolding literalMinus
 minus-some true [] e = absurd (false≢true e)
 minus-some false [] e = absurd (false≢true e)
 minus-some s (b ∷ t) e = omega arith
 
-module _ (s : Bool) (t : List ℕ) {neg : Bool} (m : neg ≡ literalMinus (signOf s) t) where
+module _ (s : Bool) (t : List ℕ) {neg : Bool} (m : neg ≡ literalMinus (literalSign s) t) where
   pub start-fits : {k : ℕ} → k ≡ startOf neg → k ≤ length t
-  start-fits q = go (literalMinus (signOf s) t) refl (q ∙ ap startOf m)
+  start-fits q = go (literalMinus (literalSign s) t) refl (q ∙ ap startOf m)
     where
-      go : (g : Bool) → literalMinus (signOf s) t ≡ g → {k : ℕ} → k ≡ startOf g → k ≤ length t
+      go : (g : Bool) → literalMinus (literalSign s) t ≡ g → {k : ℕ} → k ≡ startOf g → k ≤ length t
       go true e q = omega (arith, minus-some s t e)
       go false e q = omega arith
 
-  body : {k : ℕ} → k ≡ startOf neg → drop k t ≡ literalBody (signOf s) t
-  body q = ap (λ (n : ℕ). drop n t) (q ∙ ap startOf m) ∙ pick (literalMinus (signOf s) t)
+  body : {k : ℕ} → k ≡ startOf neg → drop k t ≡ literalBody (literalSign s) t
+  body q = ap (λ (n : ℕ). drop n t) (q ∙ ap startOf m) ∙ pick (literalMinus (literalSign s) t)
     where
       pick : (g : Bool) → drop (cond g 1 0) t ≡ cond g (drop 1 t) t
       pick true = refl
       pick false = refl
 
-  pub literal-radix : {k r : ℕ} → k ≡ startOf neg → r ≡ prefixRadix (drop k t) → r ≡ literalRadix (signOf s) t
+  pub literal-radix : {k r : ℕ} → k ≡ startOf neg → r ≡ prefixRadix (drop k t) → r ≡ literalRadix (literalSign s) t
   literal-radix q e = e ∙ ap prefixRadix (body q)
 
   pub literal-legal : (k : ℕ) {r : ℕ} → r ≡ prefixRadix (drop k t) → isRadix r ≡ true
@@ -138,11 +138,11 @@ module _ (s : Bool) (t : List ℕ) {neg : Bool} (m : neg ≡ literalMinus (signO
 
   pub literal-found :
       {k r : ℕ} (d : ℕ) {f : Found} → k ≡ startOf neg → r ≡ prefixRadix (drop k t) → drop d t ≡ afterPrefix (drop k t) →
-      Finds t f (reading (sepOf true) r (drop d t) (at whole sign (blank neg))) → Finds t f (literalReading (signOf s) t)
+      Finds t f (reading (sepOf true) r (drop d t) (at whole sign (blank neg))) → Finds t f (literalReading (literalSign s) t)
   unfolding reading literalScan
   literal-found d q e a f =
       finds-by t
       (ap₂ (λ (r : ℕ) (g : Bool). reading Skip r (drop d t) (at whole sign (blank g))) (literal-radix q e) m
-      ∙ ap (λ (l : List ℕ). reading Skip (literalRadix (signOf s) t) l (at whole sign (blank (literalMinus (signOf s) t)))) (a ∙ ap afterPrefix (body q))
-      ∙ sym (literal-scanned (signOf s) t))
+      ∙ ap (λ (l : List ℕ). reading Skip (literalRadix (literalSign s) t) l (at whole sign (blank (literalMinus (literalSign s) t)))) (a ∙ ap afterPrefix (body q))
+      ∙ sym (literal-scanned (literalSign s) t))
       f

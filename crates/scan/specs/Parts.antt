@@ -12,17 +12,18 @@ use lib.ListN.{length, take, drop, getD, drop-of-length-le, length-map, length-d
 use lib.Seq.{drop-cons, drop-drop, take-add}
 use borrow.Author.Tests.{ne-eqb}
 use Rattle.digits.specs.Meaning.{digitsOf}
-use Rattle.grammar.specs.Meaning.{digitOf, isSign, Written, plainReading, isRadix, number, unread}
-use Rattle.grammar.specs.Automaton.{isDigit, Scan, at, whole, fraction, nothing, sign, blank, finish, scan, Error, readingOf}
+use Rattle.grammar.specs.Meaning.{digitOf, isSign, Written, plainReading, isRadix, number, unread, blank}
+use Rattle.grammar.specs.Automaton.{isDigit, Scan, at, whole, fraction, nothing, sign, finish, scan, Error, readingOf}
 use Rattle.grammar.specs.Reading.{reading, opened, read-end, signFirst, read-unsigned, read-sign}
-use Rattle.grammar.specs.Run.{valuesOf, bodyOf, part, values-digit, values-under, both, sepOf, inRun, runMore, runLen, partOf, withDigits, seenAfter, scan-run}
+use Rattle.laws.specs.Lists.{part}
+use Rattle.grammar.specs.Run.{digitValues, bodyOf, values-digit, values-under, both, sepOf, inRun, runMore, runLen, partOf, withDigits, seenAfter, scan-run}
 use Rattle.grammar.specs.Class.{classOf, digit-plain}
 use Rattle.grammar.specs.Agrees.{plain-agrees}
 use Rattle.grammar.specs.declared.byte.Class.{Class}
-use Rattle.run.specs.Run.{runOf, more-fits}
+use Rattle.run.specs.Run.{runAt, more-fits}
 use Rattle.run.specs.declared.Run.{Run}
 use Rattle.scan.specs.After.{afterRun, Stopped, read-after, read-point}
-use Rattle.scan.specs.Found.{spanOf, writtenOf, wholeOf, unmarkedOf, Counted, Ready, Finds, finds-by, finds-unmarked, no-sign-at, no-sign-past}
+use Rattle.scan.specs.Found.{runDigits, writtenOf, wholeOf, unmarkedOf, Counted, Ready, Finds, finds-by, finds-unmarked, no-sign-at, no-sign-past}
 use Rattle.scan.specs.declared.Parsed.{Parsed}
 use Rattle.scan.specs.declared.Found.{Found}
 
@@ -51,12 +52,12 @@ module _ (skip : Bool) (radix : ℕ) where
       go false h e = let z : c ≡ b = cc in (ap (isDigit radix) (sym z) ∙ h, tt)
 
 -- ---- a part: its run, then the byte in front of which it ended
-module _ (t : List ℕ) (from radix : ℕ) (skip : Bool) (legal : isRadix radix ≡ true) (p : Bool) (x : Written) (n : ℕ) (count : n ≡ runLen skip radix (drop from t)) (y : Written) (same : withDigits p x (valuesOf (take n (drop from t))) ≡ y) where
+module _ (t : List ℕ) (from radix : ℕ) (skip : Bool) (legal : isRadix radix ≡ true) (p : Bool) (x : Written) (n : ℕ) (count : n ≡ runLen skip radix (drop from t)) (y : Written) (same : withDigits p x (digitValues (take n (drop from t))) ≡ y) where
   part-read : reading (sepOf skip) radix (drop from t) (at (partOf p) (opened p) x) ≡ reading (sepOf skip) radix (drop (from + n) t) (at (partOf p) (seenAfter n (opened p)) y)
   unfolding reading
   part-read =
       ap (λ (s : Scan). readingOf (finish s)) (scan-run skip radix legal p (drop from t) (opened p) x)
-      ∙ ap (λ (k : ℕ). readingOf (finish (scan (sepOf skip) radix (drop k (drop from t)) (at (partOf p) (seenAfter k (opened p)) (withDigits p x (valuesOf (take k (drop from t)))))))) (sym count)
+      ∙ ap (λ (k : ℕ). readingOf (finish (scan (sepOf skip) radix (drop k (drop from t)) (at (partOf p) (seenAfter k (opened p)) (withDigits p x (digitValues (take k (drop from t)))))))) (sym count)
       ∙ ap₂ (λ (l : List ℕ) (z : Written). readingOf (finish (scan (sepOf skip) radix l (at (partOf p) (seenAfter n (opened p)) z)))) (drop-drop n from t) same
 
   -- the text ends with the run
@@ -80,12 +81,12 @@ module _ (t : List ℕ) (from radix : ℕ) (skip : Bool) (legal : isRadix radix 
 -- ---- the same of the code's numbers: `end` where the run ends, P the places so far
 module _ (t : List ℕ) (from radix : ℕ) (skip : Bool) (legal : isRadix radix ≡ true) (p : Bool) (x : Written) (P : Parsed) (ready : Ready t P) where
   pub part-end :
-      {end : ℕ} {r : Found} → end ≡ from + runLen skip radix (drop from t) → withDigits p x (valuesOf (take (runLen skip radix (drop from t)) (drop from t))) ≡ writtenOf t P →
+      {end : ℕ} {r : Found} → end ≡ from + runLen skip radix (drop from t) → withDigits p x (digitValues (take (runLen skip radix (drop from t)) (drop from t))) ≡ writtenOf t P →
       length t ≤ end → r ≡ unmarkedOf P → Finds t r (reading (sepOf skip) radix (drop from t) (at (partOf p) (opened p) x))
   part-end e same h q = finds-unmarked t P ready q (ends t from radix skip legal p x (runLen skip radix (drop from t)) refl (writtenOf t P) same (omega arith))
 
   pub part-after :
-      {end : ℕ} {c : Class} {r : Found} → end ≡ from + runLen skip radix (drop from t) → withDigits p x (valuesOf (take (runLen skip radix (drop from t)) (drop from t))) ≡ writtenOf t P →
+      {end : ℕ} {c : Class} {r : Found} → end ≡ from + runLen skip radix (drop from t) → withDigits p x (digitValues (take (runLen skip radix (drop from t)) (drop from t))) ≡ writtenOf t P →
       end < length t → (p ≡ false → getD t end 0 ≡ 46 → ⊥) → c ≡ classOf radix (getD t end 0) →
       Finds t r (afterRun c skip radix (drop (end + 1) t) (writtenOf t P)) → Finds t r (reading (sepOf skip) radix (drop from t) (at (partOf p) (opened p) x))
   part-after {end} {c} {r} e same h o q f =
@@ -98,7 +99,7 @@ module _ (t : List ℕ) (from radix : ℕ) (skip : Bool) (legal : isRadix radix 
 -- the point behind the whole part
 pub part-point :
     (t : List ℕ) (from radix : ℕ) (skip : Bool) (legal : isRadix radix ≡ true) (x y : Written) {end : ℕ} {r : Found} → end ≡ from + runLen skip radix (drop from t) →
-    withDigits false x (valuesOf (take (runLen skip radix (drop from t)) (drop from t))) ≡ y → end < length t → getD t end 0 ≡ 46 →
+    withDigits false x (digitValues (take (runLen skip radix (drop from t)) (drop from t))) ≡ y → end < length t → getD t end 0 ≡ 46 →
     Finds t r (reading (sepOf skip) radix (drop (end + 1) t) (at fraction nothing y)) → Finds t r (reading (sepOf skip) radix (drop from t) (at whole sign x))
 part-point t from radix skip legal x y {end} {r} e same h b f =
     finds-by t
@@ -113,11 +114,11 @@ part-point t from radix skip legal x y {end} {r} e same h b f =
     n = runLen skip radix (drop from t)
 
 -- ---- the digits of a run are those of its stretch: no point stands in it
-no-bytes : bodyOf [] ≡ valuesOf []
-unfolding bodyOf valuesOf digitsOf
+no-bytes : bodyOf [] ≡ digitValues []
+unfolding bodyOf digitValues digitsOf
 no-bytes = refl
 
-under-same : (b : ℕ) (t : List ℕ) → eqb b 95 ≡ true → bodyOf t ≡ valuesOf t → bodyOf (b ∷ t) ≡ valuesOf (b ∷ t)
+under-same : (b : ℕ) (t : List ℕ) → eqb b 95 ≡ true → bodyOf t ≡ digitValues t → bodyOf (b ∷ t) ≡ digitValues (b ∷ t)
 unfolding bodyOf
 under-same b t f q = rw f (q ∙ sym (values-under b t f))
 
@@ -145,30 +146,30 @@ part-around t a m c h k l =
     ∙ ap (λ (r : List ℕ). part t a m ++ take (suc n) r) (drop-drop (m - a) a t ∙ ap (λ (j : ℕ). drop j t) place ∙ drop-cons t m 0 (omega arith))
     ∙ ap (λ (j : ℕ). part t a m ++ (getD t m 0 ∷ take n (drop j t))) (sym (add-one m))
 
-values-same : (b : ℕ) (t u : List ℕ) → eqb b 46 ≡ false → eqb b 95 ≡ false → bodyOf t ≡ valuesOf u → bodyOf (b ∷ t) ≡ valuesOf (b ∷ u)
+values-same : (b : ℕ) (t u : List ℕ) → eqb b 46 ≡ false → eqb b 95 ≡ false → bodyOf t ≡ digitValues u → bodyOf (b ∷ t) ≡ digitValues (b ∷ u)
 unfolding bodyOf
 values-same b t u e f q = rw (e, f) (ap (λ (l : List ℕ). digitOf b ∷ l) q ∙ sym (values-digit b u f))
 
 module _ (skip : Bool) (radix : ℕ) (legal : isRadix radix ≡ true) where
-  body-more : (t : List ℕ) → bodyOf (take (runMore skip radix t) t) ≡ valuesOf (take (runMore skip radix t) t)
+  body-more : (t : List ℕ) → bodyOf (take (runMore skip radix t) t) ≡ digitValues (take (runMore skip radix t) t)
   unfolding runMore
   body-more [] = no-bytes
   body-more (b ∷ t) = go (isDigit radix b) (skip && eqb b 95) refl refl (body-more t)
     where
-      go : (d v : Bool) → isDigit radix b ≡ d → (skip && eqb b 95) ≡ v → bodyOf (take (runMore skip radix t) t) ≡ valuesOf (take (runMore skip radix t) t) →
-          bodyOf (take (cond (d || v) (suc (runMore skip radix t)) 0) (b ∷ t)) ≡ valuesOf (take (cond (d || v) (suc (runMore skip radix t)) 0) (b ∷ t))
+      go : (d v : Bool) → isDigit radix b ≡ d → (skip && eqb b 95) ≡ v → bodyOf (take (runMore skip radix t) t) ≡ digitValues (take (runMore skip radix t) t) →
+          bodyOf (take (cond (d || v) (suc (runMore skip radix t)) 0) (b ∷ t)) ≡ digitValues (take (cond (d || v) (suc (runMore skip radix t)) 0) (b ∷ t))
       go true v e f more =
           let n = digit-plain radix b legal e in
           values-same b (take (runMore skip radix t) t) (take (runMore skip radix t) t) (n .no-point) (n .no-under) more
       go false true e f more = under-same b (take (runMore skip radix t) t) (both skip (eqb b 95) f .1) more
       go false false e f more = no-bytes
 
-  pub body-run : (t : List ℕ) → bodyOf (take (runLen skip radix t) t) ≡ valuesOf (take (runLen skip radix t) t)
+  pub body-run : (t : List ℕ) → bodyOf (take (runLen skip radix t) t) ≡ digitValues (take (runLen skip radix t) t)
   unfolding runLen
   body-run [] = no-bytes
   body-run (b ∷ t) = go (isDigit radix b) refl
     where
-      go : (d : Bool) → isDigit radix b ≡ d → bodyOf (take (cond d (suc (runMore skip radix t)) 0) (b ∷ t)) ≡ valuesOf (take (cond d (suc (runMore skip radix t)) 0) (b ∷ t))
+      go : (d : Bool) → isDigit radix b ≡ d → bodyOf (take (cond d (suc (runMore skip radix t)) 0) (b ∷ t)) ≡ digitValues (take (cond d (suc (runMore skip radix t)) 0) (b ∷ t))
       go true e =
           let n = digit-plain radix b legal e in
           values-same b (take (runMore skip radix t) t) (take (runMore skip radix t) t) (n .no-point) (n .no-under) (body-more t)
@@ -188,7 +189,7 @@ pub record Behind (t : List ℕ) (w : Run) (from : ℕ) : Type 0 where
   pub next : from ≡ w .to + 1
   pub point : getD t (w .to) 0 ≡ 46
   pub inside : w .to < length t
-  pub body : bodyOf (part t (w .from) (w .to)) ≡ spanOf t w
+  pub body : bodyOf (part t (w .from) (w .to)) ≡ runDigits t w
 
 -- a run is no longer than what there is
 len-fits : (skip : Bool) (radix : ℕ) (t : List ℕ) → runLen skip radix t ≤ length t
@@ -200,36 +201,36 @@ len-fits skip radix (b ∷ t) = go (isDigit radix b)
     go true = omega (arith, more-fits skip radix t)
     go false = omega arith
 
-no-span : (t : List ℕ) (k : ℕ) → spanOf t (record { from = k; to = k; digits = 0 }) ≡ []
-unfolding valuesOf digitsOf
-no-span t k = let z : k - k ≡ 0 = omega arith in ap (λ (n : ℕ). valuesOf (take n (drop k t))) z
+no-span : (t : List ℕ) (k : ℕ) → runDigits t (record { from = k; to = k; digits = 0 }) ≡ []
+unfolding digitValues digitsOf
+no-span t k = let z : k - k ≡ 0 = omega arith in ap (λ (n : ℕ). digitValues (take n (drop k t))) z
 
-module _ (t : List ℕ) (from radix : ℕ) (skip : Bool) {run : Run} (e : run ≡ runOf t from radix skip) where
+module _ (t : List ℕ) (from radix : ℕ) (skip : Bool) {run : Run} (e : run ≡ runAt t from radix skip) where
   pub run-to : run .to ≡ from + runLen skip radix (drop from t)
-  unfolding runOf
+  unfolding runAt
   run-to = ap (λ (r : Run). r .to) e
 
   pub run-counted : Counted t run
-  unfolding runOf valuesOf
+  unfolding runAt digitValues
   run-counted = subst (λ (r : Run). Counted t r) (sym e) (sym (length-map (digitsOf (part t from (from + runLen skip radix (drop from t)))) digitOf))
 
-  run-span : spanOf t run ≡ valuesOf (take (runLen skip radix (drop from t)) (drop from t))
-  unfolding runOf
+  run-span : runDigits t run ≡ digitValues (take (runLen skip radix (drop from t)) (drop from t))
+  unfolding runAt
   run-span =
       let n = runLen skip radix (drop from t) in
       let z : from + n - from ≡ n = omega arith in
-      ap (spanOf t) e ∙ ap (λ (k : ℕ). valuesOf (take k (drop from t))) z
+      ap (runDigits t) e ∙ ap (λ (k : ℕ). digitValues (take k (drop from t))) z
 
-  pub run-body : isRadix radix ≡ true → bodyOf (part t (run .from) (run .to)) ≡ spanOf t run
-  unfolding runOf
+  pub run-body : isRadix radix ≡ true → bodyOf (part t (run .from) (run .to)) ≡ runDigits t run
+  unfolding runAt
   run-body legal =
       let n = runLen skip radix (drop from t) in
       let z : from + n - from ≡ n = omega arith in
-      subst (λ (r : Run). bodyOf (part t (r .from) (r .to)) ≡ spanOf t r) (sym e)
-      (ap (λ (k : ℕ). bodyOf (take k (drop from t))) z ∙ body-run skip radix legal (drop from t) ∙ ap (λ (k : ℕ). valuesOf (take k (drop from t))) (sym z))
+      subst (λ (r : Run). bodyOf (part t (r .from) (r .to)) ≡ runDigits t r) (sym e)
+      (ap (λ (k : ℕ). bodyOf (take k (drop from t))) z ∙ body-run skip radix legal (drop from t) ∙ ap (λ (k : ℕ). digitValues (take k (drop from t))) (sym z))
 
   pub run-start : run .from ≤ run .to
-  unfolding runOf
+  unfolding runAt
   run-start = subst (λ (r : Run). r .from ≤ r .to) (sym e) (omega arith)
 
   pub run-end-fits : from ≤ length t → run .to ≤ length t
@@ -241,21 +242,21 @@ module _ (t : List ℕ) (from radix : ℕ) (skip : Bool) {run : Run} (e : run �
         whole-counted = run-counted;
         frac-counted = sym (ap length (no-span t (run .to)));
         small = omega arith;
-        stretch = record { start = run-start; end = run-end-fits h; both = run-body legal ∙ sym (append-nil (spanOf t run)) ∙ ap (λ (l : List ℕ). spanOf t run ++ l) (sym (no-span t (run .to))) };
+        stretch = record { start = run-start; end = run-end-fits h; both = run-body legal ∙ sym (append-nil (runDigits t run)) ∙ ap (λ (l : List ℕ). runDigits t run ++ l) (sym (no-span t (run .to))) };
       }
 
-  pub whole-is : (neg : Bool) → withDigits false (blank neg) (valuesOf (take (runLen skip radix (drop from t)) (drop from t))) ≡ wholeOf t neg run
+  pub whole-is : (neg : Bool) → withDigits false (blank neg) (digitValues (take (runLen skip radix (drop from t)) (drop from t))) ≡ wholeOf t neg run
   whole-is neg = ap (λ (ds : List ℕ). record { neg = neg; digits = ds; after = 0; base = 1; down = false; exp = 0 }) (sym run-span)
 
-  pub whole-same : (neg : Bool) → withDigits false (blank neg) (valuesOf (take (runLen skip radix (drop from t)) (drop from t))) ≡ writtenOf t (wholeParsed neg run)
+  pub whole-same : (neg : Bool) → withDigits false (blank neg) (digitValues (take (runLen skip radix (drop from t)) (drop from t))) ≡ writtenOf t (wholeParsed neg run)
   unfolding writtenOf
   whole-same neg =
       whole-is neg
-      ∙ ap (λ (ds : List ℕ). record { neg = neg; digits = ds; after = 0; base = 1; down = false; exp = 0 }) (sym (append-nil (spanOf t run)))
-      ∙ ap (λ (ds : List ℕ). record { neg = neg; digits = spanOf t run ++ ds; after = length ds; base = 1; down = false; exp = 0 }) (sym (no-span t (run .to)))
+      ∙ ap (λ (ds : List ℕ). record { neg = neg; digits = ds; after = 0; base = 1; down = false; exp = 0 }) (sym (append-nil (runDigits t run)))
+      ∙ ap (λ (ds : List ℕ). record { neg = neg; digits = runDigits t run ++ ds; after = length ds; base = 1; down = false; exp = 0 }) (sym (no-span t (run .to)))
 
   run-from : run .from ≡ from
-  unfolding runOf
+  unfolding runAt
   run-from = ap (λ (r : Run). r .from) e
 
   pub frac-ready : from ≤ length t → isRadix radix ≡ true → (neg : Bool) (w : Run) → Behind t w from → Ready t (fracParsed neg w run)
@@ -278,11 +279,11 @@ module _ (t : List ℕ) (from radix : ℕ) (skip : Bool) {run : Run} (e : run �
         };
       }
 
-  pub frac-same : (neg : Bool) (w : Run) → withDigits true (wholeOf t neg w) (valuesOf (take (runLen skip radix (drop from t)) (drop from t))) ≡ writtenOf t (fracParsed neg w run)
+  pub frac-same : (neg : Bool) (w : Run) → withDigits true (wholeOf t neg w) (digitValues (take (runLen skip radix (drop from t)) (drop from t))) ≡ writtenOf t (fracParsed neg w run)
   unfolding writtenOf
   frac-same neg w =
       ap (λ (ds : List ℕ). withDigits true (wholeOf t neg w) ds) (sym run-span)
-      ∙ ap (λ (k : ℕ). record { neg = neg; digits = spanOf t w ++ spanOf t run; after = k; base = 1; down = false; exp = 0 }) (zero-add (length (spanOf t run)))
+      ∙ ap (λ (k : ℕ). record { neg = neg; digits = runDigits t w ++ runDigits t run; after = k; base = 1; down = false; exp = 0 }) (zero-add (length (runDigits t run)))
 
 -- ---- the plain text: its sign, or none
 module _ (t : List ℕ) (radix : ℕ) where

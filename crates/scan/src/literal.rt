@@ -3,7 +3,7 @@ ghost use mathlib.Core.Path.{_≡_};
 ghost use Prim.Native.Nat.{_≤_};
 ghost use lib.ListN.{length, drop};
 ghost use Rattle.grammar.specs.Meaning.{literalMinus, prefixMark, prefixRadix, dropUnderscores, afterPrefix};
-ghost use Rattle.scan.specs.Literal.{signOf, startOf, FindsLiteral};
+ghost use Rattle.scan.specs.Literal.{literalSign, startOf, FindsLiteral};
 use crate::Found;
 use crate::parts;
 
@@ -15,7 +15,7 @@ pub struct Written {
 
 // Whether the literal has a sign of its own: signed formats take `-`.
 fn minus(text: &[u8], signed: bool) -> bool
-    ensures { λ r. ⌜ r ≡ literalMinus (signOf signed) (now (text .entry)) ⌝ }
+    ensures { λ r. ⌜ r ≡ literalMinus (literalSign signed) (now (text .entry)) ⌝ }
 {
     if text.len() == 0 {
         return false;
@@ -92,7 +92,7 @@ fn digits_at(text: &[u8], from: usize, radix: u32) -> usize
 }
 
 pub fn literal(text: &[u8], signed: bool) -> Written
-    ensures { λ r. ⌜ FindsLiteral (signOf signed) (now (text .entry)) r ⌝ }
+    ensures { λ r. ⌜ FindsLiteral (literalSign signed) (now (text .entry)) r ⌝ }
 {
     let neg = minus(text, signed);
     let from = start(neg);

@@ -18,7 +18,7 @@ use Rattle.fold.specs.declared.Folded.{Folded}
 use Rattle.fold.specs.declared.Order.{Order}
 use Rattle.fold.specs.declared.Order.the-variants.{Less, Same, More}
 use Rattle.fold.specs.Round.{roundBy}
-use Rattle.fold.specs.Fold.{foldOf, valueOf, fold-same, fold-step, fold-again, fold-add, fold-times, fold-round, round-less, round-same, round-more}
+use Rattle.fold.specs.Fold.{foldOf, foldedValue, fold-same, fold-step, fold-again, fold-add, fold-times, fold-round, round-less, round-same, round-more}
 use Rattle.tens.specs.Digits.{Small, small-zeros, small-drop, nat-zeros}
 use Rattle.tens.specs.Order.{orderTen}
 use Rattle.tens.specs.Prefix.{firstRaw, leadOf, first-rounds, twenty-zeros}
@@ -57,28 +57,28 @@ lift-far v z far = go (decLe 1 v)
             rw e (omega arith)
 
 -- one zero more
-pub lift-next : (v k : ℕ) {x y : Folded} → x ≡ foldOf (v * 10 ^ k) → y ≡ foldOf (valueOf x * 10 + 0) → y ≡ foldOf (v * 10 ^ (k + 1))
+pub lift-next : (v k : ℕ) {x y : Folded} → x ≡ foldOf (v * 10 ^ k) → y ≡ foldOf (foldedValue x * 10 + 0) → y ≡ foldOf (v * 10 ^ (k + 1))
 lift-next v k e f =
     let p : v * 10 ^ k * 10 + 0 ≡ v * 10 ^ (k + 1) = rw (add-one, pow-suc) (omega arith) in
-    f ∙ ap (λ (x : Folded). foldOf (valueOf x * 10 + 0)) e ∙ fold-step (v * 10 ^ k) 10 0 (omega arith) ∙ ap foldOf p
+    f ∙ ap (λ (x : Folded). foldOf (foldedValue x * 10 + 0)) e ∙ fold-step (v * 10 ^ k) 10 0 (omega arith) ∙ ap foldOf p
 
-pub lift-start : (v : ℕ) {x : Folded} → x ≡ foldOf (v + 0) → x ≡ foldOf (valueOf x * 10 ^ 0)
+pub lift-start : (v : ℕ) {x : Folded} → x ≡ foldOf (v + 0) → x ≡ foldOf (foldedValue x * 10 ^ 0)
 lift-start v {x} e =
-    let p : valueOf x ≡ valueOf x * 10 ^ 0 = omega arith in
-    e ∙ sym (fold-again (v + 0)) ∙ ap (λ (y : Folded). foldOf (valueOf y)) (sym e) ∙ ap foldOf p
+    let p : foldedValue x ≡ foldedValue x * 10 ^ 0 = omega arith in
+    e ∙ sym (fold-again (v + 0)) ∙ ap (λ (y : Folded). foldOf (foldedValue y)) (sym e) ∙ ap foldOf p
 
-pub lift-end : (v z : ℕ) {x r : Folded} → x ≡ foldOf (v + 0) → r ≡ foldOf (valueOf x * 10 ^ z) → r ≡ foldOf (v * 10 ^ z)
+pub lift-end : (v z : ℕ) {x r : Folded} → x ≡ foldOf (v + 0) → r ≡ foldOf (foldedValue x * 10 ^ z) → r ≡ foldOf (v * 10 ^ z)
 lift-end v z e f =
     let p : (v + 0) * 10 ^ z ≡ v * 10 ^ z = omega arith in
-    f ∙ ap (λ (y : Folded). foldOf (valueOf y * 10 ^ z)) e ∙ fold-times (v + 0) (10 ^ z) (one-le-pow z 10 (omega arith)) ∙ ap foldOf p
+    f ∙ ap (λ (y : Folded). foldOf (foldedValue y * 10 ^ z)) e ∙ fold-times (v + 0) (10 ^ z) (one-le-pow z 10 (omega arith)) ∙ ap foldOf p
 
-pub past-folded : (ds : List ℕ) (k z f : ℕ) {x y r : Folded} → k ≡ length ds → x ≡ foldOf (natOf 10 (take k ds)) → y ≡ foldOf (valueOf x * 10 ^ z) → r ≡ foldOf (valueOf y * 2 ^ f)
+pub past-folded : (ds : List ℕ) (k z f : ℕ) {x y r : Folded} → k ≡ length ds → x ≡ foldOf (natOf 10 (take k ds)) → y ≡ foldOf (foldedValue x * 10 ^ z) → r ≡ foldOf (foldedValue y * 2 ^ f)
     → r ≡ foldOf (natOf 10 ds * 10 ^ z * 2 ^ f)
 past-folded ds k z f l e g h =
     let n = natOf 10 ds in
     let all : natOf 10 (take k ds) ≡ n = ap (λ (i : ℕ). natOf 10 (take i ds)) l ∙ ap (natOf 10) (take-length ds) in
     h
-    ∙ ap (λ (y : Folded). foldOf (valueOf y * 2 ^ f)) (g ∙ ap (λ (x : Folded). foldOf (valueOf x * 10 ^ z)) (e ∙ ap foldOf all) ∙ fold-times n (10 ^ z) (one-le-pow z 10 (omega arith)))
+    ∙ ap (λ (y : Folded). foldOf (foldedValue y * 2 ^ f)) (g ∙ ap (λ (x : Folded). foldOf (foldedValue x * 10 ^ z)) (e ∙ ap foldOf all) ∙ fold-times n (10 ^ z) (one-le-pow z 10 (omega arith)))
     ∙ fold-times (n * 10 ^ z) (2 ^ f) (pow-pos f)
 
 -- ---- what rounding adds
@@ -90,7 +90,7 @@ carryOf More last = 1
 pub carry-by : (last : ℕ) {how j : Order} {r : ℕ} → how ≡ j → r ≡ carryOf j last → r ≡ carryOf how last
 carry-by last p e = e ∙ ap (λ (o : Order). carryOf o last) (sym p)
 
-carry-round : (how : Order) (x : Folded) {r : Folded} → r ≡ foldOf (valueOf x + carryOf how (x .low)) → r ≡ foldOf (roundBy how (valueOf x))
+carry-round : (how : Order) (x : Folded) {r : Folded} → r ≡ foldOf (foldedValue x + carryOf how (x .low)) → r ≡ foldOf (roundBy how (foldedValue x))
 unfolding carryOf
 carry-round Less x e = round-less x refl e
 carry-round Same x e = round-same x refl e
@@ -103,23 +103,23 @@ besideOf i ds f = nearestEven ((i * 10 ^ length ds + natOf 10 ds) * 2 ^ f) (10 ^
 module _ (ds : List ℕ) (small : Small ds) (f : ℕ) (few : f ≤ 64) where
   -- the steps of the code
   pub beside-folded : (v q : ℕ) {o : Order} {x y r : Folded} → q ≡ firstRaw f (leadOf 27 ds) → o ≡ orderTen ds ((q * 10 + 5) * 2 ^ (64 - f)) (2 ^ 64)
-      → x ≡ foldOf (v * 2 ^ f) → y ≡ foldOf (valueOf x + q) → r ≡ foldOf (valueOf y + carryOf o (y .low)) → r ≡ foldOf (besideOf v ds f)
+      → x ≡ foldOf (v * 2 ^ f) → y ≡ foldOf (foldedValue x + q) → r ≡ foldOf (foldedValue y + carryOf o (y .low)) → r ≡ foldOf (besideOf v ds f)
   beside-folded v q {o} {y = y} e g h k l =
       carry-round o y l
-      ∙ ap (λ (y : Folded). foldOf (roundBy o (valueOf y))) (k ∙ ap (λ (x : Folded). foldOf (valueOf x + q)) h ∙ fold-add (v * 2 ^ f) q)
+      ∙ ap (λ (y : Folded). foldOf (roundBy o (foldedValue y))) (k ∙ ap (λ (x : Folded). foldOf (foldedValue x + q)) h ∙ fold-add (v * 2 ^ f) q)
       ∙ fold-round (v * 2 ^ f + q) o
       ∙ ap (λ (w : Order). foldOf (roundBy w (v * 2 ^ f + q))) g
       ∙ ap (λ (n : ℕ). foldOf (roundBy (orderTen ds ((n * 10 + 5) * 2 ^ (64 - f)) (2 ^ 64)) (v * 2 ^ f + n))) e
       ∙ ap foldOf (sym (first-rounds ds small f few v))
 
   -- what is folded stands for the whole number
-  pub beside-whole : (i : ℕ) → foldOf (besideOf (valueOf (foldOf i)) ds f) ≡ foldOf (besideOf i ds f)
+  pub beside-whole : (i : ℕ) → foldOf (besideOf (foldedValue (foldOf i)) ds f) ≡ foldOf (besideOf i ds f)
   beside-whole i =
       let q = firstRaw f (leadOf 27 ds) in
       let o = orderTen ds ((q * 10 + 5) * 2 ^ (64 - f)) (2 ^ 64) in
-      ap foldOf (first-rounds ds small f few (valueOf (foldOf i)))
-      ∙ sym (fold-round (valueOf (foldOf i) * 2 ^ f + q) o)
-      ∙ ap (λ (x : Folded). foldOf (roundBy o (valueOf x))) (fold-step i (2 ^ f) q (pow-pos f))
+      ap foldOf (first-rounds ds small f few (foldedValue (foldOf i)))
+      ∙ sym (fold-round (foldedValue (foldOf i) * 2 ^ f + q) o)
+      ∙ ap (λ (x : Folded). foldOf (roundBy o (foldedValue x))) (fold-step i (2 ^ f) q (pow-pos f))
       ∙ fold-round (i * 2 ^ f + q) o
       ∙ ap foldOf (sym (first-rounds ds small f few i))
 
@@ -131,30 +131,30 @@ below-cut ds n p {es} h l e s =
 
 module _ (ds : List ℕ) (small : Small ds) (f : ℕ) (few : f ≤ 64) (p : ℕ) where
   cut-at : {es : List ℕ} {x r : Folded} → p ≤ length ds → es ≡ drop (length ds - p) ds → x ≡ foldOf (natOf 10 (take (length ds - p) ds))
-      → r ≡ foldOf (besideOf (valueOf x) es f) → r ≡ foldOf (nearestEven (natOf 10 ds * 2 ^ f) (10 ^ p))
+      → r ≡ foldOf (besideOf (foldedValue x) es f) → r ≡ foldOf (nearestEven (natOf 10 ds * 2 ^ f) (10 ^ p))
   cut-at {es} h e g l =
       let fs = drop (length ds - p) ds in
       let i = natOf 10 (take (length ds - p) ds) in
       l
-      ∙ ap₂ (λ (x : Folded) (gs : List ℕ). foldOf (besideOf (valueOf x) gs f)) g e
+      ∙ ap₂ (λ (x : Folded) (gs : List ℕ). foldOf (besideOf (foldedValue x) gs f)) g e
       ∙ beside-whole fs (small-drop (length ds - p) ds small) f few i
       ∙ ap (λ (n : ℕ). foldOf (nearestEven (n * 2 ^ f) (10 ^ length fs))) (sym (point-split ds p h))
       ∙ ap (λ (n : ℕ). foldOf (nearestEven (natOf 10 ds * 2 ^ f) (10 ^ n))) (point-length ds p h)
 
   pub below-some : (n : ℕ) {es : List ℕ} {x r : Folded} → n ≡ length ds → p ≤ n → es ≡ drop (n - p) ds → x ≡ foldOf (natOf 10 (take (n - p) ds))
-      → r ≡ foldOf (besideOf (valueOf x) es f) → r ≡ foldOf (nearestEven (natOf 10 ds * 2 ^ f) (10 ^ p))
+      → r ≡ foldOf (besideOf (foldedValue x) es f) → r ≡ foldOf (nearestEven (natOf 10 ds * 2 ^ f) (10 ^ p))
   below-some n k h e g l =
       let m : n - p ≡ length ds - p = ap (λ (i : ℕ). i - p) k in
       cut-at (omega arith) (e ∙ ap (λ (i : ℕ). drop i ds) m) (g ∙ ap (λ (i : ℕ). foldOf (natOf 10 (take i ds))) m) l
 
-  pub below-none : {x r : Folded} (z : ℕ) → z + length ds ≡ p → x ≡ foldOf 0 → r ≡ foldOf (besideOf (valueOf x) (replicate z 0 ++ ds) f)
+  pub below-none : {x r : Folded} (z : ℕ) → z + length ds ≡ p → x ≡ foldOf 0 → r ≡ foldOf (besideOf (foldedValue x) (replicate z 0 ++ ds) f)
       → r ≡ foldOf (nearestEven (natOf 10 ds * 2 ^ f) (10 ^ p))
   below-none z e g l =
       let gs = replicate z 0 ++ ds in
       let size : length gs ≡ p = length-append (replicate z 0) ds ∙ ap (λ (n : ℕ). n + length ds) (length-replicate {A = ℕ} z 0) ∙ e in
       let number : 0 * 10 ^ length gs + natOf 10 gs ≡ natOf 10 ds = omega (arith, nat-zeros z ds) in
       l
-      ∙ ap (λ (x : Folded). foldOf (besideOf (valueOf x) gs f)) g
+      ∙ ap (λ (x : Folded). foldOf (besideOf (foldedValue x) gs f)) g
       ∙ beside-whole gs (small-zeros z ds small) f few 0
       ∙ ap₂ (λ (n k : ℕ). foldOf (nearestEven (n * 2 ^ f) (10 ^ k))) number size
 

@@ -7,9 +7,9 @@ ghost use lib.ListN.{length, replicate};
 ghost use Rattle.laws.specs.Nearest.{nearestEven};
 ghost use Rattle.grammar.specs.Meaning.{rawOf, textLimit};
 ghost use Rattle.grammar.specs.Naturals.{natOf};
-ghost use Rattle.fold.specs.Fold.{foldOf, valueOf};
+ghost use Rattle.fold.specs.Fold.{foldOf, foldedValue};
 ghost use Rattle.grammar.specs.Run.{bodyOf};
-ghost use Rattle.fold.specs.Body.{digitsFrom};
+ghost use Rattle.fold.specs.Body.{digitsAt};
 ghost use Rattle.tens.specs.Digits.{Small};
 ghost use Rattle.tens.specs.Point.{decimal};
 ghost use Rattle.tens.specs.Tens.{besideOf, carryOf};
@@ -28,7 +28,7 @@ const ALL_TURNS: u64 = 64;
 
 // x * 10^zeros, whatever the number of zeros.
 fn lifted(x: Folded, zeros: u64) -> Folded
-    ensures { λ r. ⌜ r ≡ foldOf (valueOf x * 10 ^ zeros) ⌝ }
+    ensures { λ r. ⌜ r ≡ foldOf (foldedValue x * 10 ^ zeros) ⌝ }
 {
     if ALL_TURNS <= zeros {
         return fold::scaled(x, ALL_TURNS);
@@ -64,8 +64,8 @@ fn carry(side: Order, last: u64) -> u64
 
 // A whole number and a fraction beside it: zeros, and then the digits from a position on. The sum's last bit decides a tie.
 fn beside(body: &[u8], from: usize, count: usize, zeros: u32, whole: Folded, frac: u32) -> Folded
-    requires { ⌜ (from ≤ length (now body)) × (count ≡ length (digitsFrom (now body) from)) × Small (digitsFrom (now body) from) × (zeros ≤ 19) × (frac ≤ 64) ⌝ }
-    ensures { λ r. ⌜ r ≡ foldOf (besideOf (valueOf whole) (replicate zeros 0 ++ digitsFrom (now (body .entry)) from) frac) ⌝ }
+    requires { ⌜ (from ≤ length (now body)) × (count ≡ length (digitsAt (now body) from)) × Small (digitsAt (now body) from) × (zeros ≤ 19) × (frac ≤ 64) ⌝ }
+    ensures { λ r. ⌜ r ≡ foldOf (besideOf (foldedValue whole) (replicate zeros 0 ++ digitsAt (now (body .entry)) from) frac) ⌝ }
 {
     let q = prefix::first(body, from, zeros, frac);
     let side = order::side(body, from, count, zeros, q, frac);

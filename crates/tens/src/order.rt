@@ -5,7 +5,7 @@ ghost use Prim.Native.Nat.{_+_, _-_, _*_, _^_, _≤_, _<_};
 ghost use Rattle.wide.specs.Meaning.{valueOf};
 ghost use lib.ListN.{length, replicate};
 ghost use Rattle.tens.specs.Order.{sinkOf, orderTen};
-ghost use Rattle.fold.specs.Body.{digitsFrom};
+ghost use Rattle.fold.specs.Body.{digitsAt};
 ghost use Rattle.tens.specs.Digits.{Small};
 use fold::Order;
 use fold::body;
@@ -38,8 +38,8 @@ fn sink(start: Wide, zeros: u32) -> Wide
 
 // The digits from a position on, `count` of them, against the middle: each against the whole part of what is left of ten times it.
 fn walk(body: &[u8], from: usize, count: usize, start: Wide) -> Order
-    requires { ⌜ (from ≤ length (now body)) × (count ≡ length (digitsFrom (now body) from)) ⌝ }
-    ensures { λ r. ⌜ r ≡ orderTen (digitsFrom (now (body .entry)) from) (valueOf start) (2 ^ 64) ⌝ }
+    requires { ⌜ (from ≤ length (now body)) × (count ≡ length (digitsAt (now body) from)) ⌝ }
+    ensures { λ r. ⌜ r ≡ orderTen (digitsAt (now (body .entry)) from) (valueOf start) (2 ^ 64) ⌝ }
 {
     let mut rest = start;
     let mut at = from;
@@ -67,8 +67,8 @@ fn walk(body: &[u8], from: usize, count: usize, start: Wide) -> Order
 
 // The side of the middle above q that the fraction lies on: zeros, and then the digits from a position on.
 pub(crate) fn side(body: &[u8], from: usize, count: usize, zeros: u32, q: u64, frac: u32) -> Order
-    requires { ⌜ (from ≤ length (now body)) × (count ≡ length (digitsFrom (now body) from)) × Small (digitsFrom (now body) from) × (frac ≤ 64) × (q < 2 ^ frac) ⌝ }
-    ensures { λ r. ⌜ r ≡ orderTen (replicate zeros 0 ++ digitsFrom (now (body .entry)) from) ((q * 10 + 5) * 2 ^ (64 - frac)) (2 ^ 64) ⌝ }
+    requires { ⌜ (from ≤ length (now body)) × (count ≡ length (digitsAt (now body) from)) × Small (digitsAt (now body) from) × (frac ≤ 64) × (q < 2 ^ frac) ⌝ }
+    ensures { λ r. ⌜ r ≡ orderTen (replicate zeros 0 ++ digitsAt (now (body .entry)) from) ((q * 10 + 5) * 2 ^ (64 - frac)) (2 ^ 64) ⌝ }
 {
     walk(body, from, count, sink(middle(q, frac), zeros))
 }

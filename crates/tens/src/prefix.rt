@@ -6,7 +6,7 @@ ghost use lib.ListN.{length, replicate};
 ghost use Rattle.wide.specs.Meaning.{valueOf};
 ghost use Rattle.tens.specs.Prefix.{firstRaw, leadOf};
 ghost use Rattle.tens.specs.Digits.{Small};
-ghost use Rattle.fold.specs.Body.{digitsFrom};
+ghost use Rattle.fold.specs.Body.{digitsAt};
 ghost use Rattle.tens.specs.Walk.{Group as GroupOf};
 use fold::body;
 use wide::Wide;
@@ -22,7 +22,7 @@ struct Group {
 
 // The next `count` digits: what a word holds of them.
 fn take(body: &[u8], from: usize, count: u32) -> Group
-    requires { ⌜ (from ≤ length (now body)) × (count ≤ 19) × Small (digitsFrom (now body) from) ⌝ }
+    requires { ⌜ (from ≤ length (now body)) × (count ≤ 19) × Small (digitsAt (now body) from) ⌝ }
     ensures { λ r. ⌜ GroupOf (now (body .entry)) from count (r .value) (r .at) ⌝ }
 {
     let mut value: u64 = 0;
@@ -39,8 +39,8 @@ fn take(body: &[u8], from: usize, count: u32) -> Group
 
 // The first 27 digits after the point: zeros, and then the digits from a position on.
 fn lead(body: &[u8], from: usize, zeros: u32) -> Wide
-    requires { ⌜ (from ≤ length (now body)) × (zeros ≤ 19) × Small (digitsFrom (now body) from) ⌝ }
-    ensures { λ r. ⌜ valueOf r ≡ leadOf 27 (replicate zeros 0 ++ digitsFrom (now (body .entry)) from) ⌝ }
+    requires { ⌜ (from ≤ length (now body)) × (zeros ≤ 19) × Small (digitsAt (now body) from) ⌝ }
+    ensures { λ r. ⌜ valueOf r ≡ leadOf 27 (replicate zeros 0 ++ digitsAt (now (body .entry)) from) ⌝ }
 {
     let upper = take(body, from, 19 - zeros);
     let lower = take(body, upper.at, 8);
@@ -68,8 +68,8 @@ fn first_raw(val: Wide, frac: u32) -> u64
 
 // What the first 27 digits make of the fraction times 2^frac.
 pub(crate) fn first(body: &[u8], from: usize, zeros: u32, frac: u32) -> u64
-    requires { ⌜ (from ≤ length (now body)) × (zeros ≤ 19) × Small (digitsFrom (now body) from) × (frac ≤ 64) ⌝ }
-    ensures { λ r. ⌜ r ≡ firstRaw frac (leadOf 27 (replicate zeros 0 ++ digitsFrom (now (body .entry)) from)) ⌝ }
+    requires { ⌜ (from ≤ length (now body)) × (zeros ≤ 19) × Small (digitsAt (now body) from) × (frac ≤ 64) ⌝ }
+    ensures { λ r. ⌜ r ≡ firstRaw frac (leadOf 27 (replicate zeros 0 ++ digitsAt (now (body .entry)) from)) ⌝ }
 {
     first_raw(lead(body, from, zeros), frac)
 }

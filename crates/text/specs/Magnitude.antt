@@ -14,8 +14,9 @@ use Rattle.grammar.specs.Meaning.{expLimit, num, den, rawOf, isRadix, textLimit
 use Rattle.grammar.specs.Automaton.{Part, whole, fraction, exponent}
 use Rattle.grammar.specs.Naturals.{natOf}
 use Rattle.grammar.specs.Accepted.{TenIs, sound-exp, sound-bases}
-use Rattle.grammar.specs.Run.{bodyOf, part}
-use Rattle.scan.specs.Found.{spanOf, writtenOf}
+use Rattle.laws.specs.Lists.{part}
+use Rattle.grammar.specs.Run.{bodyOf}
+use Rattle.scan.specs.Found.{runDigits, writtenOf}
 use Rattle.scan.specs.declared.Parsed.{Parsed}
 use Rattle.fold.specs.Body.{asWritten, body-length}
 use Rattle.bits.specs.Bits.{Legal}
@@ -46,7 +47,7 @@ module _ (t : List ℕ) (p : Parsed) (radix frac : ℕ) (h : Readable t p radix 
   digits-count =
       let w = h .ready .whole-counted in
       let f = h .ready .frac-counted in
-      omega (arith, w, f, length-append (spanOf t (p .whole)) (spanOf t (p .frac)), ap length (h .ready .stretch .both))
+      omega (arith, w, f, length-append (runDigits t (p .whole)) (runDigits t (p .frac)), ap length (h .ready .stretch .both))
 
   body-short : length (part t (p .whole .from) (p .frac .to)) ≤ textLimit
   body-short =

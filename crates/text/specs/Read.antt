@@ -10,7 +10,7 @@ use lib.ListN.{length}
 use borrow.Author.Tests.{leb-true, eqb-true, eqb-false, eq-eqb, ne-eqb}
 use Rattle.format.specs.declared.Manner.{Manner}
 use Rattle.format.specs.declared.Manner.the-variants.{Strict}
-use Rattle.format.specs.Meaning.{Sign, Outcome, refused, unless, faultOf, isWidth, settle, withSign, exact}
+use Rattle.format.specs.Meaning.{Sign, Outcome, refused, unless, faultOf, isWidth, settle, withSign, exact, guarded}
 use Rattle.format.specs.Fault.{fault-free, width-bounds}
 use Rattle.format.specs.Settle.{unless-fault, unless-none}
 use Rattle.grammar.specs.Meaning.{Reading, plainReading, literalBody, literalRadix, literalReading, rawOf, outcomeOf, isRadix, textLimit, readOf, literalOf}
@@ -21,25 +21,25 @@ use Rattle.scan.specs.Literal.{FindsLiteral}
 use Rattle.scan.specs.declared.literal.Written.{Written as LiteralWritten}
 use Rattle.scan.specs.Found.{writtenOf, Ready, Finds, finds, refuses}
 use Rattle.fold.specs.declared.Folded.{Folded}
-use Rattle.fold.specs.Fold.{foldOf, valueOf, bit}
+use Rattle.fold.specs.Fold.{foldOf, foldedValue, bit}
 use Rattle.text.specs.Theorems.{settle-folded}
 use Rattle.scan.specs.declared.Parsed.{Parsed}
 use Rattle.scan.specs.declared.Found.{Found}
 use Rattle.scan.specs.declared.Found.the-variants.{Number, Refused}
 
 -- ---- the refusals before the text, 0 for none
-unfoldable pub lengthFault : ℕ → ℕ
-lengthFault n = cond (leb n textLimit) 0 4
+unfoldable pub textFault : ℕ → ℕ
+textFault n = cond (leb n textLimit) 0 4
 
 unfoldable pub earlyPlain : ℕ → ℕ → ℕ → ℕ → ℕ
-earlyPlain w f radix n = cond (eqb (faultOf w f) 0) (cond (isRadix radix) (lengthFault n) 3) (faultOf w f)
+earlyPlain w f radix n = cond (eqb (faultOf w f) 0) (cond (isRadix radix) (textFault n) 3) (faultOf w f)
 
 unfoldable pub earlyLiteral : ℕ → ℕ → ℕ → ℕ
-earlyLiteral w f n = cond (eqb (faultOf w f) 0) (lengthFault n) (faultOf w f)
+earlyLiteral w f n = cond (eqb (faultOf w f) 0) (textFault n) (faultOf w f)
 
 -- they are the meaning's
 early-unless : (n m : ℕ) (o : Outcome) → unless (cond (eqb n 0) m n) o ≡ unless n (unless m o)
-unfolding unless
+unfolding guarded
 early-unless n m o = go (eqb n 0) refl
   where
     go : (g : Bool) → eqb n 0 ≡ g → cond (eqb (cond g m n) 0) o (refused (cond g m n)) ≡ cond g (cond (eqb m 0) o (refused m)) (refused n)
@@ -47,7 +47,7 @@ early-unless n m o = go (eqb n 0) refl
     go false e = rw e
 
 pub plain-early : (k : Manner) (s : Sign) (w f radix : ℕ) (t : List ℕ) → unless (earlyPlain w f radix (length t)) (outcomeOf k s w f radix (plainReading radix t)) ≡ readOf k s w f radix t
-unfolding readOf earlyPlain lengthFault unless
+unfolding readOf earlyPlain textFault guarded
 plain-early k s w f radix t =
     early-unless (faultOf w f) (cond (isRadix radix) (cond (leb (length t) textLimit) 0 4) 3) (outcomeOf k s w f radix (plainReading radix t))
     ∙ ap (unless (faultOf w f)) (go (isRadix radix) (leb (length t) textLimit))
@@ -58,7 +58,7 @@ plain-early k s w f radix t =
     go false b = refl
 
 pub literal-early : (s : Sign) (w f : ℕ) (t : List ℕ) → unless (earlyLiteral w f (length t)) (outcomeOf Strict s w f (literalRadix s t) (literalReading s t)) ≡ literalOf s w f t
-unfolding literalOf earlyLiteral lengthFault unless
+unfolding literalOf earlyLiteral textFault guarded
 literal-early s w f t =
     early-unless (faultOf w f) (cond (leb (length t) textLimit) 0 4) (outcomeOf Strict s w f (literalRadix s t) (literalReading s t))
     ∙ ap (unless (faultOf w f)) (go (leb (length t) textLimit))
@@ -77,7 +77,7 @@ module _ (w f radix n : ℕ) {fault : ℕ} (e : fault ≡ faultOf w f) where
   unfolding earlyPlain
   early-radix z q h = rw (eq-eqb (faultOf w f) 0 (sym e ∙ z), sym q ∙ h)
 
-  pub early-length : {g : Bool} {r : ℕ} → fault ≡ 0 → g ≡ isRadix radix → g ≡ true → r ≡ lengthFault n → r ≡ earlyPlain w f radix n
+  pub early-length : {g : Bool} {r : ℕ} → fault ≡ 0 → g ≡ isRadix radix → g ≡ true → r ≡ textFault n → r ≡ earlyPlain w f radix n
   unfolding earlyPlain
   early-length z q h l = rw (eq-eqb (faultOf w f) 0 (sym e ∙ z), sym q ∙ h) l
 
@@ -85,7 +85,7 @@ module _ (w f radix n : ℕ) {fault : ℕ} (e : fault ≡ faultOf w f) where
   unfolding earlyLiteral
   early-literal-format h = rw (ne-eqb (faultOf w f) 0 (λ z. h (e ∙ z))) e
 
-  pub early-literal-length : {r : ℕ} → fault ≡ 0 → r ≡ lengthFault n → r ≡ earlyLiteral w f n
+  pub early-literal-length : {r : ℕ} → fault ≡ 0 → r ≡ textFault n → r ≡ earlyLiteral w f n
   unfolding earlyLiteral
   early-literal-length z l = rw (eq-eqb (faultOf w f) 0 (sym e ∙ z)) l
 
@@ -101,7 +101,7 @@ fine-format w f n e l =
     record { width = free .0; room = omega (arith, free, width-bounds w (free .0)); short = leb-true n textLimit l }
 
 pub plain-fine : (w f radix n : ℕ) → earlyPlain w f radix n ≡ 0 → Fine w f n × (isRadix radix ≡ true)
-unfolding earlyPlain lengthFault
+unfolding earlyPlain textFault
 plain-fine w f radix n = go (eqb (faultOf w f) 0) (isRadix radix) (leb n textLimit) refl refl refl
   where
     go : (a b c : Bool) → eqb (faultOf w f) 0 ≡ a → isRadix radix ≡ b → leb n textLimit ≡ c → _≡_ {A = ℕ} (cond a (cond b (cond c 0 4) 3) (faultOf w f)) 0 → Fine w f n × (b ≡ true)
@@ -111,7 +111,7 @@ plain-fine w f radix n = go (eqb (faultOf w f) 0) (isRadix radix) (leb n textLim
     go false b c x y z h = absurd (eqb-false (faultOf w f) 0 x h)
 
 pub literal-fine : (w f n : ℕ) → earlyLiteral w f n ≡ 0 → Fine w f n
-unfolding earlyLiteral lengthFault
+unfolding earlyLiteral textFault
 literal-fine w f n = go (eqb (faultOf w f) 0) (leb n textLimit) refl refl
   where
     go : (a c : Bool) → eqb (faultOf w f) 0 ≡ a → leb n textLimit ≡ c → _≡_ {A = ℕ} (cond a (cond c 0 4) (faultOf w f)) 0 → Fine w f n
@@ -173,7 +173,7 @@ module _ (k : Manner) (s : Sign) (w f radix : ℕ) (t : List ℕ) where
   unfolding numberOutcome
   settled-number p {m} width e q =
       ap (λ (b : ℕ). settle k s w (withSign (p .neg) (b * 2 ^ 64 + m .low))) q
-      ∙ ap (λ (x : Folded). settle k s w (withSign (p .neg) (valueOf x))) e
+      ∙ ap (λ (x : Folded). settle k s w (withSign (p .neg) (foldedValue x))) e
       ∙ settle-folded s w (p .neg) (rawOf radix f (writtenOf t p)) width k
 
 pub sane-at-number : {t : List ℕ} {radix frac : ℕ} {found : Found} {p : Parsed} → Sane t radix frac found → found ≡ Number p → Readable t p radix frac

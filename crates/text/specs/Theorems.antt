@@ -8,10 +8,10 @@ use native.Mathlib.Omega.{arith}
 use Rattle.format.specs.declared.Manner.{Manner}
 use Rattle.format.specs.Meaning.{Sign, isWidth, settle, withSign}
 use Rattle.format.specs.Far.{settle-words}
-use Rattle.fold.specs.Fold.{foldOf, valueOf, bit, value-small, value-past}
+use Rattle.fold.specs.Fold.{foldOf, foldedValue, bit, value-small, value-past}
 
 module _ (s : Sign) (w : ℕ) (neg : Bool) (m : ℕ) (width : isWidth w ≡ true) where
-  pub settle-folded : (k : Manner) → settle k s w (withSign neg (valueOf (foldOf m))) ≡ settle k s w (withSign neg m)
+  pub settle-folded : (k : Manner) → settle k s w (withSign neg (foldedValue (foldOf m))) ≡ settle k s w (withSign neg m)
   unfolding foldOf
   settle-folded k =
       settle-words s w neg (m % 2 ^ 64) width k (bit (foldOf m .over)) (m / 2 ^ 64) (to (decLe (2 ^ 64) m)) (from (decLe (2 ^ 64) m))

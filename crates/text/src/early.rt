@@ -1,6 +1,6 @@
 // The refusals that go before the text: of the format, of the radix, of the length.
 ghost use mathlib.Core.Path.{_≡_};
-ghost use Rattle.text.specs.Read.{lengthFault, earlyPlain, earlyLiteral};
+ghost use Rattle.text.specs.Read.{textFault, earlyPlain, earlyLiteral};
 
 const WRONG_RADIX: u32 = 3;
 
@@ -31,7 +31,7 @@ pub(crate) fn literal(width: u32, frac: u32, len: usize) -> u32
 }
 
 fn length(len: usize) -> u32
-    ensures { λ r. ⌜ r ≡ lengthFault len ⌝ }
+    ensures { λ r. ⌜ r ≡ textFault len ⌝ }
 {
     if len <= grammar::TEXT_LIMIT {
         return 0;

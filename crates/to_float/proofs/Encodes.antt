@@ -15,7 +15,7 @@ use Rattle.format.specs.Fault.{frac-word}
 use Rattle.laws.specs.Nearest.{nearestEven}
 use Rattle.float.specs.Meaning.{Binary, least}
 use Rattle.float.specs.Parts.{binary}
-use Rattle.to_float.specs.Meaning.{patternOf, toOf}
+use Rattle.to_float.specs.Meaning.{patternOf, toFloatOf}
 use Rattle.to_float.specs.Encoding.{Roomy, Digits, Encoded, placeOf, roomy-least, pattern-sum, sum-below, pattern-zero, pattern-sign}
 
 -- ---- the significand
@@ -74,13 +74,13 @@ pub encode-room : (p w v f : ℕ) {fault : ℕ} → Roomy p w → fault ≡ faul
 encode-room p w v f room d z = (room, frac-word v f d z)
 
 module _ (b : Binary) (w f : ℕ) {fault x : ℕ} (d : fault ≡ faultOf w f) (z : fault ≡ 0) where
-  done-pattern : (a : ℤ) → x ≡ patternOf b (ltZ a (pos 0)) (natAbs a) f → DoneU x false ≡ unsignedAnswer (toOf b w f a)
+  done-pattern : (a : ℤ) → x ≡ patternOf b (ltZ a (pos 0)) (natAbs a) f → DoneU x false ≡ unsignedAnswer (toFloatOf b w f a)
   done-pattern a e = pass-unsigned (faultOf w f) (done (pos (patternOf b (ltZ a (pos 0)) (natAbs a) f)) false) d z (done-unsigned refl e)
 
   -- a signed number y was read back as a
-  pub answer-signed : {y : ℤ} (a : ℤ) {n : ℕ} → y ≡ a → n ≡ natAbs y → x ≡ patternOf b (ltZ y (pos 0)) n f → DoneU x false ≡ unsignedAnswer (toOf b w f a)
+  pub answer-signed : {y : ℤ} (a : ℤ) {n : ℕ} → y ≡ a → n ≡ natAbs y → x ≡ patternOf b (ltZ y (pos 0)) n f → DoneU x false ≡ unsignedAnswer (toFloatOf b w f a)
   answer-signed {y} a same size e =
       done-pattern a (e ∙ ap (λ (m : ℕ). patternOf b (ltZ y (pos 0)) m f) size ∙ ap (λ (v : ℤ). patternOf b (ltZ v (pos 0)) (natAbs v) f) same)
 
-  pub answer-unsigned : (n : ℕ) → x ≡ patternOf b false n f → DoneU x false ≡ unsignedAnswer (toOf b w f (pos n))
+  pub answer-unsigned : (n : ℕ) → x ≡ patternOf b false n f → DoneU x false ≡ unsignedAnswer (toFloatOf b w f (pos n))
   answer-unsigned n e = done-pattern (pos n) (e ∙ ap (λ (t : Bool). patternOf b t n f) (sym (le-ltb n 0 (omega arith))))

@@ -7,17 +7,17 @@ use Prim.Native.Nat.{ℕ}
 use lib.IntN.{ℤ, pos, negsuc}
 use lib.Ieee.{size, span, climb}
 use Rattle.laws.specs.Nearest.{nearestEven, nearestBy}
-use Rattle.format.specs.Meaning.{Outcome, done, refused, isWidth, faultOf, unless}
+use Rattle.format.specs.Meaning.{Outcome, done, refused, isWidth, faultOf, guarded}
 use Rattle.float.specs.Meaning.{Binary, binary32, binary64}
-use Rattle.to_float.specs.Meaning.{nearestSteps, patternBy, patternOf, toOf}
+use Rattle.to_float.specs.Meaning.{nearestSteps, patternBy, patternOf, toFloatOf}
 
 data Row : Type 0 where
   f32 : ℕ → ℕ → ℤ → Outcome → Row
   f64 : ℕ → ℕ → ℤ → Outcome → Row
 
 unfoldable got : Row → Outcome
-got (f32 w f a o) = toOf binary32 w f a
-got (f64 w f a o) = toOf binary64 w f a
+got (f32 w f a o) = toFloatOf binary32 w f a
+got (f64 w f a o) = toFloatOf binary64 w f a
 
 unfoldable told : Row → Outcome
 told (f32 w f a o) = o
@@ -55,7 +55,7 @@ table =
 
 module _ where
   each : map got table ≡ map told table
-  unfolding got told isWidth faultOf unless size span climb nearestEven nearestBy nearestSteps patternBy patternOf
+  unfolding got told isWidth faultOf guarded size span climb nearestEven nearestBy nearestSteps patternBy patternOf
   each = refl
 
 -- ---- a sign, n and F, and the pattern of n / 2^F. 0, 1, -1, the ends of 64 bits, a carry, ties to even, also among subnormal numbers

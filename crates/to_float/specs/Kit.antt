@@ -11,7 +11,7 @@ use borrow.Author.Tests.{lt-ltb, le-ltb, leb-true, leb-false, eqb-true, eqb-fals
 use Rattle.laws.specs.Nearest.{nearestEven, nearestBy}
 use Rattle.float.specs.Meaning.{Binary, binary32, binary64, least, infinite, finite}
 use Rattle.float.specs.Kit.{ofKit, Agrees, infinities, odd-agrees}
-use Rattle.to_float.specs.Meaning.{significand, unit, nearestSteps, rounded}
+use Rattle.to_float.specs.Meaning.{significand, unit, nearestSteps, roundedValue}
 
 -- the kit compares twice the remainder with the divisor
 by-order : (q r d : ℕ) → kitNearest q (compare (r * 2) d) ≡ nearestBy q r d
@@ -40,8 +40,8 @@ units-agree b d m s q k = go (ltb (q * 2 ^ k) (2 ^ m))
     go false = infinities
 
 -- the number nearest to n / 2^F
-pub rounded-agrees : (f : Format) (s : Bool) (n g : ℕ) → Agrees (ofKit f) (round f s n (2 ^ g)) (rounded (ofKit f) s n g)
-unfolding round units rounded nearestSteps nearestEven
+pub rounded-agrees : (f : Format) (s : Bool) (n g : ℕ) → Agrees (ofKit f) (round f s n (2 ^ g)) (roundedValue (ofKit f) s n g)
+unfolding round units roundedValue nearestSteps nearestEven
 rounded-agrees kit32 s n g =
     rw (by-order (n * 2 ^ 149 / (2 ^ g * 2 ^ unit binary32 n g)) (n * 2 ^ 149 % (2 ^ g * 2 ^ unit binary32 n g)) (2 ^ g * 2 ^ unit binary32 n g))
     (units-agree binary32 25 277 s (significand binary32 n g) (unit binary32 n g))

@@ -23,8 +23,8 @@ unfoldable pub nearestSteps : Binary → ℕ → ℕ → ℕ
 nearestSteps b n f = significand b n f * 2 ^ unit b n f
 
 -- "rounds to infinity": what would be 2^(emax + 1) or more
-unfoldable pub rounded : Binary → Bool → ℕ → ℕ → Value
-rounded b neg n f = cond (ltb (nearestSteps b n f) (2 ^ (least b + bias b + 1))) (finite neg (nearestSteps b n f)) (infinite neg)
+unfoldable pub roundedValue : Binary → Bool → ℕ → ℕ → Value
+roundedValue b neg n f = cond (ltb (nearestSteps b n f) (2 ^ (least b + bias b + 1))) (finite neg (nearestSteps b n f)) (infinite neg)
 
 -- S, E and T as one number
 abbrev pub joined : Binary → Bool → ℕ → ℕ → ℕ
@@ -37,7 +37,7 @@ patternBy b neg c k =
     (joined b neg 0 c)
     (cond (ltb c (2 ^ b .precision)) (joined b neg (k + 1) (c - 2 ^ (b .precision - 1))) (joined b neg (k + 2) 0))
 
--- the pattern of `rounded`
+-- the pattern of `roundedValue`
 unfoldable pub patternOf : Binary → Bool → ℕ → ℕ → ℕ
 patternOf b neg n f =
     cond (ltb (nearestSteps b n f) (2 ^ (least b + bias b + 1)))
@@ -45,5 +45,5 @@ patternOf b neg n f =
     (joined b neg (2 ^ b .field - 1) 0)
 
 -- the pattern of the number nearest to a / 2^f, in the answer's value
-abbrev pub toOf : Binary → ℕ → ℕ → ℤ → Outcome
-toOf b w f a = unless (faultOf w f) (done (pos (patternOf b (ltZ a (pos 0)) (natAbs a) f)) false)
+abbrev pub toFloatOf : Binary → ℕ → ℕ → ℤ → Outcome
+toFloatOf b w f a = unless (faultOf w f) (done (pos (patternOf b (ltZ a (pos 0)) (natAbs a) f)) false)

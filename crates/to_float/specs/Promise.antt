@@ -4,23 +4,23 @@ use Prim.Native.Nat.{ℕ}
 use lib.IntN.{ℤ, pos}
 use Rattle.format.specs.declared.UnsignedAnswer.{UnsignedAnswer}
 use Rattle.format.specs.Meaning.{unsignedAnswer}
-use Rattle.format.specs.Promise.{unique}
+use Rattle.laws.specs.Unique.{unique}
 use Rattle.float.specs.Meaning.{binary32, binary64}
-use Rattle.to_float.specs.Meaning.{toOf}
+use Rattle.to_float.specs.Meaning.{toFloatOf}
 
 -- the pattern of a raw a of the format of width w with f fraction bits
 abbrev pub SignedToF32 : ℤ → ℕ → ℕ → UnsignedAnswer → Type 0
-SignedToF32 a w f r = r ≡ unsignedAnswer (toOf binary32 w f a)
+SignedToF32 a w f r = r ≡ unsignedAnswer (toFloatOf binary32 w f a)
 
 abbrev pub SignedToF64 : ℤ → ℕ → ℕ → UnsignedAnswer → Type 0
-SignedToF64 a w f r = r ≡ unsignedAnswer (toOf binary64 w f a)
+SignedToF64 a w f r = r ≡ unsignedAnswer (toFloatOf binary64 w f a)
 
 -- an unsigned raw is a number that is not negative
 abbrev pub UnsignedToF32 : ℕ → ℕ → ℕ → UnsignedAnswer → Type 0
-UnsignedToF32 a w f r = r ≡ unsignedAnswer (toOf binary32 w f (pos a))
+UnsignedToF32 a w f r = r ≡ unsignedAnswer (toFloatOf binary32 w f (pos a))
 
 abbrev pub UnsignedToF64 : ℕ → ℕ → ℕ → UnsignedAnswer → Type 0
-UnsignedToF64 a w f r = r ≡ unsignedAnswer (toOf binary64 w f (pos a))
+UnsignedToF64 a w f r = r ≡ unsignedAnswer (toFloatOf binary64 w f (pos a))
 
 module _ (w f : ℕ) {r s : UnsignedAnswer} where
   pub signed-to-f32-unique : (a : ℤ) → SignedToF32 a w f r → SignedToF32 a w f s → r ≡ s

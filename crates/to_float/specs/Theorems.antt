@@ -22,11 +22,11 @@ use Rattle.format.specs.Fault.{fault-free, width-bounds}
 use Rattle.format.specs.Settle.{unless-none}
 use Rattle.format.specs.Theorems.{InRange, lowest-out, highest-out, settle-fits}
 use Rattle.format.specs.Far.{limit-word}
-use Rattle.float.specs.Meaning.{Binary, bias, least, negative, biased, trailing, steps, finite, ofFields, valueOf, rawOf}
+use Rattle.float.specs.Meaning.{Binary, bias, least, negative, biased, trailing, steps, finite, ofFields, patternValue, rawOfSteps}
 use Rattle.float.specs.Parts.{binary}
 use Rattle.float.specs.Scaled.{scaled-few}
-use Rattle.from_float.specs.Meaning.{ofValue, fromOf}
-use Rattle.to_float.specs.Meaning.{unit, significand, nearestSteps, rounded, joined, patternBy, patternOf}
+use Rattle.from_float.specs.Meaning.{ofValue, fromFloatOf}
+use Rattle.to_float.specs.Meaning.{unit, significand, nearestSteps, roundedValue, joined, patternBy, patternOf}
 use Rattle.to_float.specs.Encoding.{Roomy, Digits, digits-of, unit-is, significand-is, steps-below, place-below, roomy-least}
 use Rattle.to_float.specs.Encoding.{scaled-least, scaled-most}
 
@@ -80,8 +80,8 @@ module _ (p w : ℕ) (neg : Bool) (e t : ℕ) (low : t < 2 ^ (p - 1)) (most : e 
       go true = le-leb (2 ^ (w + (p - 1))) (2 ^ (w + (p - 1)) + e * h + t) (omega arith)
       go false = lt-leb (2 ^ (w + (p - 1))) (0 + e * h + t) (omega (arith, below))
 
-  pub joined-value : valueOf (binary p w) (joined (binary p w) neg e t) ≡ finite neg (steps (binary p w) e t)
-  unfolding valueOf ofFields
+  pub joined-value : patternValue (binary p w) (joined (binary p w) neg e t) ≡ finite neg (steps (binary p w) e t)
+  unfolding patternValue ofFields
   joined-value =
       rw (field-negative, field-biased, field-trailing, ne-eqb e (2 ^ w - 1) (λ z. omega arith))
 
@@ -92,7 +92,7 @@ module _ (p w n f : ℕ) (room : Roomy p w) (word : n < 2 ^ 64) (frac : f ≤ 64
   none-below z =
       rw (significand-zero (binary p w) n f z) (omega (arith, pow-pos (least (binary p w) + bias (binary p w) + 1)))
 
-  value-zero : n ≡ 0 → valueOf (binary p w) (patternOf (binary p w) neg n f) ≡ finite neg (nearestSteps (binary p w) n f)
+  value-zero : n ≡ 0 → patternValue (binary p w) (patternOf (binary p w) neg n f) ≡ finite neg (nearestSteps (binary p w) n f)
   unfolding patternOf patternBy nearestSteps
   value-zero z =
       let u = unit (binary p w) n f in
@@ -100,7 +100,7 @@ module _ (p w n f : ℕ) (room : Roomy p w) (word : n < 2 ^ 64) (frac : f ≤ 64
       rw (significand-zero (binary p w) n f z, lt-ltb (0 * 2 ^ u) (2 ^ top) (omega (arith, pow-pos top)), lt-ltb 0 (2 ^ (p - 1)) (pow-pos (p - 1)))
       (joined-value p w neg 0 0 (pow-pos (p - 1)) (omega (arith, pow-mono {i = 8} {j = w} (room .roomy))) ∙ ap (λ (v : ℕ). finite neg v) (omega arith))
 
-  value-some : (d : ℕ) → Digits n d → valueOf (binary p w) (patternOf (binary p w) neg n f) ≡ finite neg (nearestSteps (binary p w) n f)
+  value-some : (d : ℕ) → Digits n d → patternValue (binary p w) (patternOf (binary p w) neg n f) ≡ finite neg (nearestSteps (binary p w) n f)
   unfolding patternOf patternBy nearestSteps
   value-some d digits =
       let some : 1 ≤ p = omega (arith, room .small .some) in
@@ -115,7 +115,7 @@ module _ (p w n f : ℕ) (room : Roomy p w) (word : n < 2 ^ 64) (frac : f ≤ 64
       (by (unit (binary p w) n f) c some at-least at-most below (decLe (suc c) (2 ^ p)))
     where
       by : (u c : ℕ) → 1 ≤ p → 2 ^ (p - 1) ≤ c → c ≤ 2 ^ p → u + 2 < 2 ^ w - 1 → Dec (suc c ≤ 2 ^ p)
-          → valueOf (binary p w) (cond (ltb c (2 ^ p)) (joined (binary p w) neg (u + 1) (c - 2 ^ (p - 1))) (joined (binary p w) neg (u + 2) 0)) ≡ finite neg (c * 2 ^ u)
+          → patternValue (binary p w) (cond (ltb c (2 ^ p)) (joined (binary p w) neg (u + 1) (c - 2 ^ (p - 1))) (joined (binary p w) neg (u + 2) 0)) ≡ finite neg (c * 2 ^ u)
       by u c some l m b (yes k) =
           let e : 2 ^ (p - 1) + (c - 2 ^ (p - 1)) ≡ c = omega arith in
           let j : (u + 1) - 1 ≡ u = omega arith in
@@ -132,16 +132,16 @@ module _ (p w n f : ℕ) (room : Roomy p w) (word : n < 2 ^ 64) (frac : f ≤ 64
           carried : (u : ℕ) → c ≡ 2 ^ p → (2 ^ (p - 1) + 0) * 2 ^ (u + 1) ≡ c * 2 ^ u
           carried u e = rw (pow-add 2 u 1, e, double p some) (omega arith)
 
-  pub pattern-value : valueOf (binary p w) (patternOf (binary p w) neg n f) ≡ finite neg (nearestSteps (binary p w) n f)
+  pub pattern-value : patternValue (binary p w) (patternOf (binary p w) neg n f) ≡ finite neg (nearestSteps (binary p w) n f)
   pattern-value = go (decLe 1 n)
     where
-      go : Dec (1 ≤ n) → valueOf (binary p w) (patternOf (binary p w) neg n f) ≡ finite neg (nearestSteps (binary p w) n f)
+      go : Dec (1 ≤ n) → patternValue (binary p w) (patternOf (binary p w) neg n f) ≡ finite neg (nearestSteps (binary p w) n f)
       go (yes k) = value-some (64 - leadingZeros 64 n) (digits-of n k word)
       go (no k) = value-zero (omega arith)
 
   -- which is what the standard's rounding gives
-  pub pattern-rounded : valueOf (binary p w) (patternOf (binary p w) neg n f) ≡ rounded (binary p w) neg n f
-  unfolding rounded
+  pub pattern-rounded : patternValue (binary p w) (patternOf (binary p w) neg n f) ≡ roundedValue (binary p w) neg n f
+  unfolding roundedValue
   pattern-rounded = pattern-value ∙ sym (rw (lt-ltb (nearestSteps (binary p w) n f) (2 ^ (least (binary p w) + bias (binary p w) + 1)) (below (decLe 1 n))))
     where
       below : Dec (1 ≤ n) → nearestSteps (binary p w) n f < 2 ^ (least (binary p w) + bias (binary p w) + 1)
@@ -222,8 +222,8 @@ sign-back (negsuc n) = refl
 -- the identity, in each manner, on every raw whose number has at most p significant bits
 module _ (p w : ℕ) (room : Roomy p w) (k : Manner) (s : Sign) (v f : ℕ) (a : ℤ) (format : faultOf v f ≡ 0) (range : InRange s v a)
     (short : Short p (natAbs a)) where
-  pub there-and-back : fromOf (binary p w) k s v f (patternOf (binary p w) (ltZ a (pos 0)) (natAbs a) f) ≡ done a false
-  unfolding ofValue rawOf
+  pub there-and-back : fromFloatOf (binary p w) k s v f (patternOf (binary p w) (ltZ a (pos 0)) (natAbs a) f) ≡ done a false
+  unfolding ofValue rawOfSteps
   there-and-back =
       let b = binary p w in
       let n = natAbs a in
@@ -234,7 +234,7 @@ module _ (p w : ℕ) (room : Roomy p w) (k : Manner) (s : Sign) (v f : ℕ) (a :
       let x = patternOf b (ltZ a (pos 0)) n f in
       let raw : nearestEven (nearestSteps b n f * 2 ^ f) (2 ^ least b) ≡ n =
       ap (λ (m : ℕ). nearestEven m (2 ^ least b)) (steps-exact p w n f room word frac short) ∙ nearest-exact n (2 ^ least b) (pow-pos (least b)) in
-      unless-none (faultOf v f) (ofValue b k s v f (valueOf b x)) format
+      unless-none (faultOf v f) (ofValue b k s v f (patternValue b x)) format
       ∙ ap (ofValue b k s v f) (pattern-value p w n f room word frac (ltZ a (pos 0)))
       ∙ ap (λ (m : ℕ). settle k s v (withSign (ltZ a (pos 0)) m)) raw
       ∙ ap (settle k s v) (sign-back a)

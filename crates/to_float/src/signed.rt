@@ -2,7 +2,7 @@
 ghost use mathlib.Core.Path.{_≡_};
 ghost use Rattle.format.specs.Meaning.{unsignedAnswer};
 ghost use Rattle.float.specs.Parts.{binary};
-ghost use Rattle.to_float.specs.Meaning.{toOf};
+ghost use Rattle.to_float.specs.Meaning.{toFloatOf};
 ghost use Rattle.to_float.specs.Encoding.{Roomy};
 ghost use Rattle.to_float.specs.Promise.{SignedToF32, SignedToF64};
 use crate::encode;
@@ -23,7 +23,7 @@ pub fn to_f64(raw: i64, width: u32, frac: u32) -> UnsignedAnswer
 
 fn to(raw: i64, precision: u32, field: u32, width: u32, frac: u32) -> UnsignedAnswer
     requires { ⌜ Roomy precision field ⌝ }
-    ensures { λ r. ⌜ r ≡ unsignedAnswer (toOf (binary precision field) width frac raw) ⌝ }
+    ensures { λ r. ⌜ r ≡ unsignedAnswer (toFloatOf (binary precision field) width frac raw) ⌝ }
 {
     let fault = format::check(width, frac);
     if fault == 0 {

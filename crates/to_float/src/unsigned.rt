@@ -3,7 +3,7 @@ ghost use mathlib.Core.Path.{_≡_};
 ghost use lib.IntN.{pos};
 ghost use Rattle.format.specs.Meaning.{unsignedAnswer};
 ghost use Rattle.float.specs.Parts.{binary};
-ghost use Rattle.to_float.specs.Meaning.{toOf};
+ghost use Rattle.to_float.specs.Meaning.{toFloatOf};
 ghost use Rattle.to_float.specs.Encoding.{Roomy};
 ghost use Rattle.to_float.specs.Promise.{UnsignedToF32, UnsignedToF64};
 use crate::encode;
@@ -24,7 +24,7 @@ pub fn to_f64(raw: u64, width: u32, frac: u32) -> UnsignedAnswer
 
 fn to(raw: u64, precision: u32, field: u32, width: u32, frac: u32) -> UnsignedAnswer
     requires { ⌜ Roomy precision field ⌝ }
-    ensures { λ r. ⌜ r ≡ unsignedAnswer (toOf (binary precision field) width frac (pos raw)) ⌝ }
+    ensures { λ r. ⌜ r ≡ unsignedAnswer (toFloatOf (binary precision field) width frac (pos raw)) ⌝ }
 {
     let fault = format::check(width, frac);
     if fault == 0 {

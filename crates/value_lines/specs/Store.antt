@@ -12,18 +12,18 @@ use Rattle.value_lines.specs.declared.line.Value.{Value}
 use Rattle.value_lines.specs.Meaning.{isValue, ValueLine, valueLine, valuesOf, lineNumber, rawAt, numberAt, over}
 use Rattle.value_lines.specs.Held.{Held, held-none, held-more, held-all}
 use Rattle.value_lines.specs.Lines.{firstLine, valuesAt, line-within, at-value, at-skip, at-end}
-use Rattle.value_lines.specs.Literal.{valueOf}
+use Rattle.value_lines.specs.Literal.{lineValue}
 
 -- what one line adds: nothing, or its number, raw and answer in place n
 pub record Entered (line : List ℕ) (number n : ℕ) (lines : List ℕ) (raws : List ℤ) (answers lines' : List ℕ) (raws' : List ℤ) (answers' : List ℕ) (next : ℕ) : Type 0 where
   pub lines-are : lines' ≡ cond (isValue line) (set lines n number) lines
-  pub raws-are : raws' ≡ cond (isValue line) (set raws n (valueOf line .raw)) raws
-  pub answers-are : answers' ≡ cond (isValue line) (set answers n (valueOf line .answer)) answers
+  pub raws-are : raws' ≡ cond (isValue line) (set raws n (lineValue line .raw)) raws
+  pub answers-are : answers' ≡ cond (isValue line) (set answers n (lineValue line .answer)) answers
   pub next-is : next ≡ cond (isValue line) (n + 1) n
 
 -- the two ways
 module _ {line : List ℕ} {number n : ℕ} {lines : List ℕ} {raws : List ℤ} {answers : List ℕ} where
-  pub entered : {v : Value} {raw : ℤ} → isValue line ≡ true → v ≡ valueOf line → raw ≡ v .raw
+  pub entered : {v : Value} {raw : ℤ} → isValue line ≡ true → v ≡ lineValue line → raw ≡ v .raw
       → Entered line number n lines raws answers (set lines n number) (set raws n raw) (set answers n (v .answer)) (n + 1)
   entered e is same = record { lines-are = rw e; raws-are = rw (e, same, is); answers-are = rw (e, is); next-is = rw e }
 
@@ -31,7 +31,7 @@ module _ {line : List ℕ} {number n : ℕ} {lines : List ℕ} {raws : List ℤ}
   passed e = record { lines-are = rw e; raws-are = rw e; answers-are = rw e; next-is = rw e }
 
 -- every value line is in the list, and what stands past them is as it was
-pub record Stored (vs : List ValueLine) (lines : List ℕ) (raws : List ℤ) (answers lines' : List ℕ) (raws' : List ℤ) (answers' : List ℕ) : Type 0 where
+pub record AllEntered (vs : List ValueLine) (lines : List ℕ) (raws : List ℤ) (answers lines' : List ℕ) (raws' : List ℤ) (answers' : List ℕ) : Type 0 where
   pub lines-are : lines' ≡ over (map lineNumber vs) lines
   pub raws-are : raws' ≡ over (map rawAt vs) raws
   pub answers-are : answers' ≡ over (map numberAt vs) answers
@@ -89,8 +89,8 @@ module _ (file lines : List ℕ) (raws : List ℤ) (answers lines' : List ℕ) (
   module _ (room : length (valuesOf file) ≤ length lines) (room-raws : length (valuesOf file) ≤ length raws) (room-answers : length (valuesOf file) ≤ length answers)
       {line : List ℕ} (here : at < length file) (is : line ≡ firstLine (drop at file)) where
     more-value : isValue line ≡ true
-        → SoFar file lines raws answers (set lines' n (number + 1)) (set raws' n (valueOf line .raw)) (set answers' n (valueOf line .answer)) (n + 1) (number + 1) (at + (length line + 1))
-    unfolding rawAt numberAt valueOf
+        → SoFar file lines raws answers (set lines' n (number + 1)) (set raws' n (lineValue line .raw)) (set answers' n (lineValue line .answer)) (n + 1) (number + 1) (at + (length line + 1))
+    unfolding rawAt numberAt lineValue
     more-value e =
         let left = s .left ∙ at-value file at here is (number + 1) e in
         let vs = valuesOf file in
@@ -121,13 +121,13 @@ module _ (file lines : List ℕ) (raws : List ℤ) (answers lines' : List ℕ) (
         → SoFar file lines raws answers l r a next (number + 1) (at + (length line + 1))
     more {l} {r} {a} {next} t = go (isValue line) refl (t .lines-are) (t .raws-are) (t .answers-are) (t .next-is)
       where
-        go : (b : Bool) → isValue line ≡ b → l ≡ cond b (set lines' n (number + 1)) lines' → r ≡ cond b (set raws' n (valueOf line .raw)) raws'
-            → a ≡ cond b (set answers' n (valueOf line .answer)) answers' → next ≡ cond b (n + 1) n
+        go : (b : Bool) → isValue line ≡ b → l ≡ cond b (set lines' n (number + 1)) lines' → r ≡ cond b (set raws' n (lineValue line .raw)) raws'
+            → a ≡ cond b (set answers' n (lineValue line .answer)) answers' → next ≡ cond b (n + 1) n
             → SoFar file lines raws answers l r a next (number + 1) (at + (length line + 1))
         go true e p q u w = rw (p, q, u, w) (more-value e)
         go false e p q u w = rw (p, q, u, w) (more-skip e)
 
-  pub end : length file ≤ at → Stored (valuesOf file) lines raws answers lines' raws' answers'
+  pub end : length file ≤ at → AllEntered (valuesOf file) lines raws answers lines' raws' answers'
   end h =
       let none = s .left ∙ at-end file at (number + 1) h in
       let vs = valuesOf file in

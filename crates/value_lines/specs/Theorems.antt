@@ -25,9 +25,9 @@ pub data NoFeeds : List (List ℕ) → Type 0 where
   more : {line : List ℕ} {lines : List (List ℕ)} → NoFeed line → NoFeeds lines → NoFeeds (line ∷ lines)
 
 -- each line, ended by LF
-unfoldable pub joined : List (List ℕ) → List ℕ
-joined [] = []
-joined (line ∷ lines) = line ++ lineFeed ∷ joined lines
+unfoldable pub joinedLines : List (List ℕ) → List ℕ
+joinedLines [] = []
+joinedLines (line ∷ lines) = line ++ lineFeed ∷ joinedLines lines
 
 -- a line that LF ends, and what stands after it
 pub line-cut : (line file : List ℕ) → NoFeed line → linesOf (line ++ lineFeed ∷ file) ≡ line ∷ linesOf file
@@ -47,47 +47,47 @@ line-last b (a ∷ line) h =
     rw (other, rest)
 
 -- lines, each ended by LF, before any text
-pub lines-before : {lines : List (List ℕ)} (file : List ℕ) → NoFeeds lines → linesOf (joined lines ++ file) ≡ lines ++ linesOf file
-unfolding joined
+pub lines-before : {lines : List (List ℕ)} (file : List ℕ) → NoFeeds lines → linesOf (joinedLines lines ++ file) ≡ lines ++ linesOf file
+unfolding joinedLines
 lines-before file none = refl
 lines-before file (more {line} {lines} h hs) =
-    ap linesOf (append-assoc line (lineFeed ∷ joined lines) file) ∙ line-cut line (joined lines ++ file) h ∙ ap (λ (l : List (List ℕ)). line ∷ l) (lines-before file hs)
+    ap linesOf (append-assoc line (lineFeed ∷ joinedLines lines) file) ∙ line-cut line (joinedLines lines ++ file) h ∙ ap (λ (l : List (List ℕ)). line ∷ l) (lines-before file hs)
 
-pub lines-joined : {lines : List (List ℕ)} → NoFeeds lines → linesOf (joined lines) ≡ lines
+pub lines-joined : {lines : List (List ℕ)} → NoFeeds lines → linesOf (joinedLines lines) ≡ lines
 unfolding linesOf
-lines-joined {lines} h = ap linesOf (sym (append-nil (joined lines))) ∙ lines-before [] h ∙ append-nil lines
+lines-joined {lines} h = ap linesOf (sym (append-nil (joinedLines lines))) ∙ lines-before [] h ∙ append-nil lines
 
 -- ---- The values are exactly the value lines, in order.
 unfoldable pub only : List (List ℕ) → List (List ℕ)
 only [] = []
 only (line ∷ lines) = cond (isValue line) (line ∷ only lines) (only lines)
 
-abbrev pub textOf : ValueLine → List ℕ
-textOf v = v .text
+abbrev pub lineText : ValueLine → List ℕ
+lineText v = v .text
 
-pub texts-from : (n : ℕ) (lines : List (List ℕ)) → map textOf (valuesFrom n lines) ≡ only lines
+pub texts-from : (n : ℕ) (lines : List (List ℕ)) → map lineText (valuesFrom n lines) ≡ only lines
 unfolding valuesFrom only
 texts-from n [] = refl
 texts-from n (line ∷ lines) = go (isValue line) (texts-from (n + 1) lines)
   where
-    go : (b : Bool) → map textOf (valuesFrom (n + 1) lines) ≡ only lines
-        → map textOf (cond b (valueLine n line ∷ valuesFrom (n + 1) lines) (valuesFrom (n + 1) lines)) ≡ cond b (line ∷ only lines) (only lines)
+    go : (b : Bool) → map lineText (valuesFrom (n + 1) lines) ≡ only lines
+        → map lineText (cond b (valueLine n line ∷ valuesFrom (n + 1) lines) (valuesFrom (n + 1) lines)) ≡ cond b (line ∷ only lines) (only lines)
     go true h = ap (λ (l : List (List ℕ)). line ∷ l) h
     go false h = h
 
-pub values-are : (file : List ℕ) → map textOf (valuesOf file) ≡ only (linesOf file)
+pub values-are : (file : List ℕ) → map lineText (valuesOf file) ≡ only (linesOf file)
 unfolding valuesOf
 values-are file = texts-from 1 (linesOf file)
 
 -- what stands in the list depends on the texts alone
-pub raws-of : (vs ws : List ValueLine) → map textOf vs ≡ map textOf ws → (map rawAt vs ≡ map rawAt ws) × (map numberAt vs ≡ map numberAt ws)
+pub raws-of : (vs ws : List ValueLine) → map lineText vs ≡ map lineText ws → (map rawAt vs ≡ map rawAt ws) × (map numberAt vs ≡ map numberAt ws)
 unfolding rawAt numberAt
 raws-of [] [] e = (refl, refl)
 raws-of [] (w ∷ ws) e = let z : _≡_ {A = ℕ} 0 1 = cc in absurd (omega arith)
 raws-of (v ∷ vs) [] e = let z : _≡_ {A = ℕ} 0 1 = cc in absurd (omega arith)
 raws-of (v ∷ vs) (w ∷ ws) e =
     let first : v .text ≡ w .text = cc in
-    let rest : map textOf vs ≡ map textOf ws = cc in
+    let rest : map lineText vs ≡ map lineText ws = cc in
     let r = raws-of vs ws rest in
     (rw (first, r .0), rw (first, r .1))
 
@@ -167,33 +167,33 @@ module _ (lines : List (List ℕ)) (before : NoFeeds lines) (file : List ℕ) wh
   abbrev rest : List ValueLine
   rest = valuesFrom (1 + length lines) (linesOf file)
 
-  pub cut : valuesOf (joined lines ++ file) ≡ first ++ rest
+  pub cut : valuesOf (joinedLines lines ++ file) ≡ first ++ rest
   unfolding valuesOf
   cut = ap (valuesFrom 1) (lines-before file before) ∙ values-append 1 lines (linesOf file)
 
   -- Adding a comment or an empty line between two lines: the values before it stay, those after it have the next line number, and no raw or answer changes.
   module _ (skipped : List ℕ) (whole : NoFeed skipped) (skip : isValue skipped ≡ false) where
-    pub skipped-line : valuesOf (joined lines ++ (skipped ++ lineFeed ∷ file)) ≡ first ++ map later rest
+    pub skipped-line : valuesOf (joinedLines lines ++ (skipped ++ lineFeed ∷ file)) ≡ first ++ map later rest
     unfolding valuesOf
     skipped-line =
         let there = lines-before (skipped ++ lineFeed ∷ file) before ∙ ap (λ (l : List (List ℕ)). lines ++ l) (line-cut skipped file whole) in
         ap (valuesFrom 1) there ∙ values-append 1 lines (skipped ∷ linesOf file)
         ∙ ap (λ (l : List ValueLine). first ++ l) (value-skip (1 + length lines) skipped (linesOf file) skip ∙ values-later (1 + length lines) (linesOf file))
 
-    later-text : (vs : List ValueLine) → map textOf (map later vs) ≡ map textOf vs
+    later-text : (vs : List ValueLine) → map lineText (map later vs) ≡ map lineText vs
     unfolding later
     later-text [] = refl
     later-text (v ∷ vs) = rw (later-text vs)
 
-    pub skipped-raws : (map rawAt (valuesOf (joined lines ++ (skipped ++ lineFeed ∷ file))) ≡ map rawAt (valuesOf (joined lines ++ file)))
-        × (map numberAt (valuesOf (joined lines ++ (skipped ++ lineFeed ∷ file))) ≡ map numberAt (valuesOf (joined lines ++ file)))
+    pub skipped-raws : (map rawAt (valuesOf (joinedLines lines ++ (skipped ++ lineFeed ∷ file))) ≡ map rawAt (valuesOf (joinedLines lines ++ file)))
+        × (map numberAt (valuesOf (joinedLines lines ++ (skipped ++ lineFeed ∷ file))) ≡ map numberAt (valuesOf (joinedLines lines ++ file)))
     skipped-raws =
-        raws-of (valuesOf (joined lines ++ (skipped ++ lineFeed ∷ file))) (valuesOf (joined lines ++ file))
-        (ap (map textOf) skipped-line ∙ map-append textOf first (map later rest) ∙ rw (later-text rest) (sym (ap (map textOf) cut ∙ map-append textOf first rest)))
+        raws-of (valuesOf (joinedLines lines ++ (skipped ++ lineFeed ∷ file))) (valuesOf (joinedLines lines ++ file))
+        (ap (map lineText) skipped-line ∙ map-append lineText first (map later rest) ∙ rw (later-text rest) (sym (ap (map lineText) cut ∙ map-append lineText first rest)))
 
   -- One value line in place of another: no other value changes.
   pub changed-line : (line : List ℕ) → NoFeed line → isValue line ≡ true
-      → valuesOf (joined lines ++ (line ++ lineFeed ∷ file)) ≡ first ++ valueLine (1 + length lines) line ∷ valuesFrom (1 + length lines + 1) (linesOf file)
+      → valuesOf (joinedLines lines ++ (line ++ lineFeed ∷ file)) ≡ first ++ valueLine (1 + length lines) line ∷ valuesFrom (1 + length lines + 1) (linesOf file)
   unfolding valuesOf
   changed-line line whole value =
       let there = lines-before (line ++ lineFeed ∷ file) before ∙ ap (λ (l : List (List ℕ)). lines ++ l) (line-cut line file whole) in

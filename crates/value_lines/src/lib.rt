@@ -5,7 +5,7 @@ ghost use mathlib.Core.Bool.{true};
 ghost use Prim.Native.Nat.{_≤_, _<_};
 ghost use lib.ListN.{length};
 ghost use Rattle.value_lines.specs.Meaning.{fileLimit, isValue, valuesOf};
-ghost use Rattle.value_lines.specs.Store.{Entered, Stored};
+ghost use Rattle.value_lines.specs.Store.{Entered, AllEntered};
 
 mod line;
 
@@ -58,7 +58,7 @@ pub fn store(file: &[u8], lines: &mut [u32], raws: &mut [i16], answers: &mut [u3
     requires { ⌜ length (valuesOf (now file)) ≤ length (now lines) ⌝ }
     requires { ⌜ length (valuesOf (now file)) ≤ length (now raws) ⌝ }
     requires { ⌜ length (valuesOf (now file)) ≤ length (now answers) ⌝ }
-    ensures { λ _. ⌜ Stored (valuesOf (now (file .entry))) (now (lines .entry)) (now (raws .entry)) (now (answers .entry)) (now (lines .exit)) (now (raws .exit)) (now (answers .exit)) ⌝ }
+    ensures { λ _. ⌜ AllEntered (valuesOf (now (file .entry))) (now (lines .entry)) (now (raws .entry)) (now (answers .entry)) (now (lines .exit)) (now (raws .exit)) (now (answers .exit)) ⌝ }
 {
     let mut n: usize = 0;
     let mut number: u32 = 0;

@@ -4,7 +4,7 @@ ghost use Prim.Native.Nat.{_≤_};
 ghost use lib.ListN.{length, drop};
 ghost use Rattle.value_lines.specs.Meaning.{isValue};
 ghost use Rattle.value_lines.specs.Lines.{firstLine};
-ghost use Rattle.value_lines.specs.Literal.{valueOf};
+ghost use Rattle.value_lines.specs.Literal.{lineValue};
 use format::SignedAnswer;
 
 const LINE_FEED: u8 = 10;
@@ -49,7 +49,7 @@ pub(crate) fn is_value(line: &[u8]) -> bool
 
 // The literal of a line. A strict raw of 16 bits loses nothing as one.
 pub(crate) fn read_value(line: &[u8]) -> Value
-    ensures { λ r. ⌜ r ≡ valueOf (now (line .entry)) ⌝ }
+    ensures { λ r. ⌜ r ≡ lineValue (now (line .entry)) ⌝ }
 {
     let read = text::signed::read_literal(line, WIDTH, FRAC);
     match read {

@@ -4,7 +4,7 @@ use mathlib.Core.Path.{_≡_, sym, ap, _∙_}
 use Prim.Native.Nat.{ℕ, _+_, _-_, _*_, _/_, _%_, _^_, _≤_, _<_}
 use native.Mathlib.Omega.{arith}
 use native.Mathlib.Nat.{mul-add, add-mul, mul-assoc, mul-le-mul, div-add-mod', mod-lt, div-lt-iff-lt-mul, lt-of-mul-lt-mul-right, sub-add-cancel}
-use Rattle.wide.specs.Step.{stepOf}
+use Rattle.wide.specs.Step.{divisionStep}
 use Rattle.wide.proofs.LongDivision.{step-is}
 
 -- q less k, and k times d given back
@@ -50,7 +50,7 @@ module _ {h l d d₀ : ℕ} (given : Digit h l d d₀) where
   there-lt : there < d
   there-lt = omega (arith, mod-lt h {m = d / 2 ^ 32} (omega arith))
 
-  pub right : back ≤ there → (record { quotient = guess; rest = there - back }) ≡ stepOf (h * 2 ^ 32 + l) d
+  pub right : back ≤ there → (record { quotient = guess; rest = there - back }) ≡ divisionStep (h * 2 ^ 32 + l) d
   right t = step-is (record { quotient = guess; rest = there - back }) (h * 2 ^ 32 + l) d (omega (arith, whole)) (omega (arith, there-lt))
 
   -- else it is one too high where one d is enough, and two where it is not
@@ -58,7 +58,7 @@ module _ {h l d d₀ : ℕ} (given : Digit h l d d₀) where
     pub guess-pos : 0 < guess
     guess-pos = lt-of-mul-lt-mul-right d {m = 0} {n = guess} (omega (arith, whole))
 
-    pub one-less : back - there ≤ d → (record { quotient = guess - 1; rest = d - (back - there) }) ≡ stepOf (h * 2 ^ 32 + l) d
+    pub one-less : back - there ≤ d → (record { quotient = guess - 1; rest = d - (back - there) }) ≡ divisionStep (h * 2 ^ 32 + l) d
     one-less u = step-is (record { quotient = guess - 1; rest = d - (back - there) }) (h * 2 ^ 32 + l) d (omega (arith, whole, less-by 1 guess d guess-pos)) (omega arith)
 
     module _ (u : d < back - there) where
@@ -68,5 +68,5 @@ module _ {h l d d₀ : ℕ} (given : Digit h l d d₀) where
       pub rest-le : back - there - d ≤ d
       rest-le = omega (arith, back-lt)
 
-      pub two-less : (record { quotient = guess - 2; rest = d - (back - there - d) }) ≡ stepOf (h * 2 ^ 32 + l) d
+      pub two-less : (record { quotient = guess - 2; rest = d - (back - there - d) }) ≡ divisionStep (h * 2 ^ 32 + l) d
       two-less = step-is (record { quotient = guess - 2; rest = d - (back - there - d) }) (h * 2 ^ 32 + l) d (omega (arith, whole, less-by 2 guess d guess-more, rest-le)) (omega (arith, rest-le))

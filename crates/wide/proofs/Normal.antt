@@ -10,7 +10,7 @@ use lib.Pow.{pow-pos, pow-add, shl-lt}
 use Rattle.wide.specs.declared.Wide.{Wide}
 use Rattle.wide.specs.declared.divide.Step.{Step}
 use Rattle.wide.specs.Meaning.{valueOf}
-use Rattle.wide.specs.Step.{stepOf}
+use Rattle.wide.specs.Step.{divisionStep}
 use Rattle.wide.proofs.LongDivision.{step-is, told-whole, told-rest, told-quotient}
 
 -- shifted by k, d has its top bit set and still fits a word
@@ -46,7 +46,7 @@ pub record Shifted (h l d k b : ℕ) (x : Wide) : Type 0 where
 pub record First (x : Wide) (b m : ℕ) (s : Step) : Type 0 where
   pub fits : x .low < 2 ^ 64
   pub half : m ≡ x .low % 2 ^ 32
-  pub is : s ≡ stepOf (x .high * 2 ^ 32 + x .low / 2 ^ 32) b
+  pub is : s ≡ divisionStep (x .high * 2 ^ 32 + x .low / 2 ^ 32) b
 
 module _ {h l d k b : ℕ} {x : Wide} (given : Shifted h l d k b x) where
   small : (h * 2 ^ 64 + l) * 2 ^ k < b * 2 ^ 64
@@ -75,7 +75,7 @@ module _ {h l d k b : ℕ} {x : Wide} (given : Shifted h l d k b x) where
     pub rest-below : s .rest < b
     rest-below = told-rest (x .high * 2 ^ 32 + x .low / 2 ^ 32) b (one .is) (omega (arith, b-top))
 
-    module _ {t : Step} (et : t ≡ stepOf (s .rest * 2 ^ 32 + m) b) where
+    module _ {t : Step} (et : t ≡ divisionStep (s .rest * 2 ^ 32 + m) b) where
       pub second-lt : t .quotient < 2 ^ 32
       second-lt = told-quotient (s .rest) m et rest-below (omega arith)
 
@@ -84,7 +84,7 @@ module _ {h l d k b : ℕ} {x : Wide} (given : Shifted h l d k b x) where
           let spread : (s .quotient * 2 ^ 32 + t .quotient) * b ≡ s .quotient * b * 2 ^ 32 + t .quotient * b = add-mul (s .quotient * 2 ^ 32) (t .quotient) b ∙ ap (λ (n : ℕ). n + t .quotient * b) (mul-right-comm (s .quotient) (2 ^ 32) b) in
           omega (arith, told-whole (x .high * 2 ^ 32 + x .low / 2 ^ 32) b (one .is), told-whole (s .rest * 2 ^ 32 + m) b et)
 
-      pub both : (record { quotient = s .quotient * 2 ^ 32 + t .quotient; rest = t .rest / 2 ^ k }) ≡ stepOf (h * 2 ^ 64 + l) d
+      pub both : (record { quotient = s .quotient * 2 ^ 32 + t .quotient; rest = t .rest / 2 ^ k }) ≡ divisionStep (h * 2 ^ 64 + l) d
       both =
           let q : ℕ = s .quotient * 2 ^ 32 + t .quotient in
           let scaled : q * d * 2 ^ k + t .rest ≡ (h * 2 ^ 64 + l) * 2 ^ k = ap (λ (n : ℕ). n + t .rest) (mul-assoc q d (2 ^ k) ∙ ap (λ (n : ℕ). q * n) (sym (given .by))) ∙ digits ∙ exact in

@@ -5,8 +5,8 @@ use Prim.Native.Nat.{ℕ, _+_, _-_, _*_, _/_, _%_, _^_}
 use lib.Dec.{ltb}
 use Rattle.wide.specs.declared.Wide.{Wide}
 use Rattle.wide.specs.declared.Quotient.{Quotient}
-use Rattle.wide.specs.Meaning.{valueOf}
-use Rattle.wide.specs.Theorems.{Words, same-value}
+use Rattle.wide.specs.Meaning.{valueOf, Words}
+use Rattle.wide.specs.Theorems.{same-value}
 
 -- mul
 abbrev pub Product : ℕ → ℕ → Wide → Type 0

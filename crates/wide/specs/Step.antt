@@ -2,5 +2,5 @@
 use Prim.Native.Nat.{ℕ, _/_, _%_}
 use Rattle.wide.specs.declared.divide.Step.{Step}
 
-abbrev pub stepOf : ℕ → ℕ → Step
-stepOf n d = record { quotient = n / d; rest = n % d }
+abbrev pub divisionStep : ℕ → ℕ → Step
+divisionStep n d = record { quotient = n / d; rest = n % d }

@@ -6,12 +6,7 @@ use native.Mathlib.Nat.{lt-of-le-of-lt, lt-of-mul-lt-mul-right, mod-lt, div-add-
 use lib.Arith.{digits-lt, digits-div, digits-mod}
 use lib.Dec.{lit<}
 use Rattle.wide.specs.declared.Wide.{Wide}
-use Rattle.wide.specs.Meaning.{valueOf}
-
--- both words of a value of the code are below 2 ^ 64
-pub record Words (x : Wide) : Type 0 where
-  pub high : x .high < 2 ^ 64
-  pub low : x .low < 2 ^ 64
+use Rattle.wide.specs.Meaning.{valueOf, Words}
 
 pub value-lt : {x : Wide} → Words x → valueOf x < 2 ^ 128
 value-lt w = digits-lt {m = 2 ^ 64} (w .high) (w .low)

@@ -1,7 +1,7 @@
 // Two words divided by one: long division by hand, with half words as digits.
 ghost use mathlib.Core.Path.{_≡_};
 ghost use Prim.Native.Nat.{_+_, _*_, _^_, _≤_, _<_};
-ghost use Rattle.wide.specs.Step.{stepOf};
+ghost use Rattle.wide.specs.Step.{divisionStep};
 use super::HALF;
 use super::Wide;
 
@@ -17,7 +17,7 @@ pub(crate) struct Step {
 // One word by d, with no division where the quotient is 0.
 pub(crate) fn word(x: u64, d: u64) -> Step
     requires { ⌜ 0 < d ⌝ }
-    ensures { λ r. ⌜ r ≡ stepOf x d ⌝ }
+    ensures { λ r. ⌜ r ≡ divisionStep x d ⌝ }
 {
     if x < d {
         return Step {
@@ -36,7 +36,7 @@ pub(crate) fn word(x: u64, d: u64) -> Step
 // taken from that. Where there is too little, the guess was too high, and each d that is given back makes it one less.
 fn digit(high: u64, low: u64, d: u64) -> Step
     requires { ⌜ (2 ^ 63 ≤ d) × (high < d) × (low < 2 ^ 32) ⌝ }
-    ensures { λ r. ⌜ r ≡ stepOf (high * 2 ^ 32 + low) d ⌝ }
+    ensures { λ r. ⌜ r ≡ divisionStep (high * 2 ^ 32 + low) d ⌝ }
 {
     let guess = high / (d >> 32);
     let there = (high % (d >> 32)) * BASE + low;
@@ -64,7 +64,7 @@ fn digit(high: u64, low: u64, d: u64) -> Step
 // top bit set, which leaves the quotient as it is; the rest is shifted back.
 pub(crate) fn words(high: u64, low: u64, d: u64) -> Step
     requires { ⌜ high < d ⌝ }
-    ensures { λ r. ⌜ r ≡ stepOf (high * 2 ^ 64 + low) d ⌝ }
+    ensures { λ r. ⌜ r ≡ divisionStep (high * 2 ^ 64 + low) d ⌝ }
 {
     let k = u64::leading_zeros(d);
     let by = super::shl_word(d, k);

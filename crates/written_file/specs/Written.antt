@@ -12,24 +12,22 @@ use lib.IntN.{ℤ, pos, negsuc}
 use lib.ListN.{length, length-append}
 use borrow.Author.Tests.{ne-eqb, eq-eqb, le-leb}
 use Rattle.format.specs.declared.Manner.the-variants.{Strict}
-use Rattle.format.specs.Meaning.{signed, done, faultOf, isWidth, signedAnswer, numberS, valueS}
+use Rattle.format.specs.Meaning.{signed, done, faultOf, isWidth, signedAnswer, numberS, valueS, guarded}
 use Rattle.format.specs.Theorems.{InRange}
 use Rattle.grammar.specs.Meaning.{isSign, prefixMark, prefixRadix, literalMinus, literalRadix, literalOf}
 use Rattle.grammar.specs.Literals.{short-prefix, same-either, Opens}
 use Rattle.grammar.specs.Theorems.{literal-plain}
-use Rattle.decimal.specs.Meaning.{byteOf, fractionDigits, minus, textOf, rawText}
+use Rattle.decimal.specs.Meaning.{byteOf, fractionDigits, signText, textOf, rawText}
 use Rattle.decimal.specs.Form.{Digits, Leads, lone, first, pointed, formText, Form, text-form, form-of}
 use Rattle.decimal.specs.Form.{none as no-digit, more as one-digit}
 use Rattle.decimal.specs.Theorems.{text-length, write-read}
 use Rattle.filter.specs.Meaning.{mostTaps}
 use Rattle.filter.specs.Range.{sample-sfits}
-use Rattle.filter.specs.Promise.{unless}
 use Rattle.value_lines.specs.Meaning.{fileLimit, lineFeed, hash, isValue, ValueLine, valueLine, valuesFrom, valuesOf, answerOf, lineNumber, rawAt, numberAt, over, linesOf}
 use Rattle.value_lines.specs.Lines.{value-more}
-use Rattle.value_lines.specs.Theorems.{NoFeeds, none, more, joined, lines-joined}
+use Rattle.value_lines.specs.Theorems.{NoFeeds, none, more, joinedLines, lines-joined}
 use Rattle.fitting.specs.declared.FileAnswer.the-variants.{Done}
-use Rattle.fitting.specs.Meaning.{judge, accepted, roomFault, fileFault}
-use Rattle.fitting.specs.Promise.{fitted, roomyOf, fittedOf}
+use Rattle.fitting.specs.Meaning.{judge, accepted, roomFault, fileFault, fitted, fittedOf}
 use Rattle.fitting.specs.Read.{judge-done}
 
 -- ---- every byte is from `-`, 45, to `9`, 57
@@ -50,8 +48,8 @@ unfolding pointed
 point-bytes no-digit = no-byte
 point-bytes (one-digit h r) = one-byte {b = 46} (omega arith) (omega arith) (digit-bytes (one-digit h r))
 
-minus-bytes : (neg : Bool) → Bytes (minus neg)
-unfolding minus
+minus-bytes : (neg : Bool) → Bytes (signText neg)
+unfolding signText
 minus-bytes true = one-byte {b = 45} (omega arith) (omega arith) no-byte
 minus-bytes false = no-byte
 
@@ -60,7 +58,7 @@ unfolding formText
 form-bytes {neg} f = both (minus-bytes neg) (both (digit-bytes (f .whole-digits)) (point-bytes (f .fraction-digits)))
 
 form-value : (neg : Bool) {ws : List ℕ} (fs : List ℕ) → Leads ws → isValue (formText neg ws fs) ≡ true
-unfolding formText minus isValue
+unfolding formText signText isValue
 form-value true fs l = refl
 form-value false fs (lone {d}) = rw (ne-eqb (d + 48) hash (λ e. omega arith))
 form-value false fs (first {d} {e} {ds} h) = rw (ne-eqb (d + 48) hash (λ e. omega arith))
@@ -126,8 +124,8 @@ literal-write raw w f format range =
 abbrev pub lineOf : ℤ → List ℕ
 lineOf raw = rawText raw 15
 
-unfoldable pub fileOf : List ℤ → List ℕ
-fileOf rs = joined (map lineOf rs)
+unfoldable pub writtenFile : List ℤ → List ℕ
+writtenFile rs = joinedLines (map lineOf rs)
 
 pub data Raws : List ℤ → Type 0 where
   no-raw : Raws []
@@ -137,8 +135,8 @@ whole-lines : (rs : List ℤ) → NoFeeds (map lineOf rs)
 whole-lines [] = none
 whole-lines (r ∷ rs) = more (outside lineFeed (raw-line r 15 .in-range) (λ h k. omega arith)) (whole-lines rs)
 
-lines-are : (rs : List ℤ) → linesOf (fileOf rs) ≡ map lineOf rs
-unfolding fileOf
+lines-are : (rs : List ℤ) → linesOf (writtenFile rs) ≡ map lineOf rs
+unfolding writtenFile
 lines-are rs = lines-joined (whole-lines rs)
 
 -- a line is at most 67 bytes and LF
@@ -147,11 +145,11 @@ unfolding rawText
 line-short (pos n) range = text-length false n 15 (omega (arith, sample-sfits (pos n) range .sfits)) (omega arith)
 line-short (negsuc n) range = text-length true (suc n) 15 (omega (arith, sample-sfits (negsuc n) range .sfits)) (omega arith)
 
-file-short : {rs : List ℤ} → Raws rs → length (fileOf rs) ≤ 68 * length rs
-unfolding fileOf joined
+file-short : {rs : List ℤ} → Raws rs → length (writtenFile rs) ≤ 68 * length rs
+unfolding writtenFile joinedLines
 file-short no-raw = omega arith
 file-short (one-raw {r} {rs} h hs) =
-    omega (arith, length-append (lineOf r) (lineFeed ∷ joined (map lineOf rs)), line-short r h, file-short hs)
+    omega (arith, length-append (lineOf r) (lineFeed ∷ joinedLines (map lineOf rs)), line-short r h, file-short hs)
 
 -- the values: one for each raw, accepted, with the raw
 pub record Read (rs : List ℤ) (vs : List ValueLine) : Type 0 where
@@ -183,18 +181,18 @@ values n (one-raw {r} {rs} h hs) =
 module _ (rs : List ℤ) (range : Raws rs) (some : 1 ≤ length rs) (few : length rs ≤ mostTaps) (lines : List ℕ) (raws : List ℤ) (answers : List ℕ) (taps : List ℤ)
     (same-raws : length lines ≡ length raws) (same-answers : length lines ≡ length answers) (room : length rs ≤ length lines) (taps-room : length rs ≤ length taps) where
   abbrev vs : List ValueLine
-  vs = valuesOf (fileOf rs)
+  vs = valuesOf (writtenFile rs)
 
   read : Read rs vs
   unfolding valuesOf
   read = rw (lines-are rs) (values 1 range)
 
-  no-fault : fileFault (length (fileOf rs)) (length vs) (length lines) (length raws) (length answers) (length taps) ≡ 0
+  no-fault : fileFault (length (writtenFile rs)) (length vs) (length lines) (length raws) (length answers) (length taps) ≡ 0
   unfolding fileFault roomFault
   no-fault =
       rw (
         read .count,
-        le-leb (length (fileOf rs)) fileLimit (omega (arith, file-short range)),
+        le-leb (length (writtenFile rs)) fileLimit (omega (arith, file-short range)),
         le-leb (length rs) mostTaps few,
         eq-eqb (length lines) (length raws) same-raws,
         eq-eqb (length lines) (length answers) same-answers,
@@ -203,9 +201,9 @@ module _ (rs : List ℤ) (range : Raws rs) (some : 1 ≤ length rs) (few : lengt
         ne-eqb (length rs) 0 (λ z. omega arith),
       )
 
-  pub written-back : fittedOf (fileOf rs) lines raws answers taps
+  pub written-back : fittedOf (writtenFile rs) lines raws answers taps
       ≡ fitted (Done (length rs)) (over (map lineNumber vs) lines) (over rs raws) (over (map numberAt vs) answers) (over rs taps)
-  unfolding roomyOf unless
+  unfolding fittedOf guarded
   written-back =
       let told : judge (length vs) vs ≡ Done (length rs) = judge-done (length vs) vs (read .all) ∙ ap Done (read .count) in
       rw (no-fault, told, read .raws-are, read .all)

@@ -4,7 +4,7 @@ use Prim.Native.Nat.{ℕ, _+_, _-_, _*_, _/_, _^_}
 use native.Mathlib.Omega.{arith}
 use lib.Pow.{pow-pos}
 use borrow.Author.Needs.{needs}
-use Rattle.fold.specs.Fold.{foldOf, valueOf}
+use Rattle.fold.specs.Fold.{foldOf, foldedValue}
 use Rattle.fold.specs.Body.{Taken}
 use Rattle.bits.specs.Cut.{cut-done}
 use Rattle.bits.proofs.cut.Statement.{statement}
@@ -50,7 +50,7 @@ returns c =
     (subst (λ (m : ℕ). Taken (a .body .now) 0 (a .count) m (head .result .number) (head .result .at)) (c .before .before .before .before .before .before .before .before .power .ensures) (head .ensures))
     (digit .ensures)
     (c .before .before .before .before .before .any-nonzero .ensures)
-    (c .before .before .times .ensures ∙ ap (λ (m : ℕ). foldOf (valueOf (head .result .number) * m + digit .result .digit / 2 ^ a .c)) (c .before .before .before .before .power2 .ensures))
+    (c .before .before .times .ensures ∙ ap (λ (m : ℕ). foldOf (foldedValue (head .result .number) * m + digit .result .digit / 2 ^ a .c)) (c .before .before .before .before .power2 .ensures))
     (c .before .half .ensures)
     (c .rounded .ensures)
 

@@ -3,7 +3,7 @@ use Prim.Native.Nat.{_/_, _%_, _^_, _<_}
 use native.Mathlib.Nat.{div-le-self}
 use native.Mathlib.Omega.{arith}
 use borrow.Author.Needs.{needs}
-use Rattle.decimal.specs.Meaning.{minus, wholeText, fractionText, textOf}
+use Rattle.decimal.specs.Meaning.{signText, wholeText, fractionText, textOf}
 use Rattle.decimal.specs.Digits.{whole-word}
 use Rattle.decimal.proofs.Parts.{joined}
 use Rattle.decimal.proofs.fill.Statement.{statement}
@@ -31,7 +31,7 @@ returns c =
     let s = f .before .before in
     let m = s .args .magnitude in
     let k = s .args .frac in
-    joined (minus (s .args .neg)) (wholeText (m / 2 ^ k)) (fractionText k (m % 2 ^ k)) (s .args .text .now) (f .write .last .0) (w .write2 .last .0) (c .sign .last .0)
+    joined (signText (s .args .neg)) (wholeText (m / 2 ^ k)) (fractionText k (m % 2 ^ k)) (s .args .text .now) (f .write .last .0) (w .write2 .last .0) (c .sign .last .0)
     (c .sign .result) (w .write2 .result) (f .write .result) (s .pre .1) (f .write .ensures) (w .write2 .ensures) (c .sign .ensures)
 
 pub fill-spec : {M : Type 1} → statement M

@@ -10,8 +10,7 @@ use borrow.Author.Needs.{needs}
 use Rattle.format.specs.declared.UnsignedAnswer.the-variants.{Done as DoneU}
 use Rattle.filter.specs.Refuse.{block-fit, refuses, goes-on}
 use Rattle.filter.specs.Block.{Through}
-use Rattle.filter.specs.Meaning.{stateOf, runOf}
-use Rattle.filter.specs.Promise.{ran, done, ranOf}
+use Rattle.filter.specs.Meaning.{stateOf, runOf, ran, ranDone, ranOf}
 use Rattle.filter.proofs.run.Statement.{statement}
 use Rattle.filter.proofs.run.Tie as tie
 
@@ -41,7 +40,7 @@ same-length-2 c = search needs
 
 -- a block that is through, put into the outcome
 same-run : {taps before samples final outputs : List ℤ} {marks : List ℕ} {count : ℕ} → Through taps before samples final outputs marks count
-    → ran (DoneU count false) (stateOf final) outputs marks ≡ done (runOf taps before samples)
+    → ran (DoneU count false) (stateOf final) outputs marks ≡ ranDone (runOf taps before samples)
 unfolding runOf
 same-run t = rw (t .final-is, t .outputs-are, t .marks-are, t .count-is)
 

@@ -12,9 +12,8 @@ use Rattle.laws.specs.Signed.{ok-back}
 use Rattle.format.specs.declared.SignedAnswer.the-variants.{Done as DoneS}
 use Rattle.filter.specs.declared.sum.Held.{Held}
 use Rattle.filter.specs.Run.{next-length}
-use Rattle.filter.specs.Meaning.{mostTaps, outputOf, clipOf}
+use Rattle.filter.specs.Meaning.{mostTaps, outputOf, clipOf, stepped, stepOf}
 use Rattle.filter.specs.Refuse.{taps-few, refuses, goes-on}
-use Rattle.filter.specs.Promise.{stepped, stepOf}
 use Rattle.filter.proofs.step.Statement.{statement}
 use Rattle.filter.proofs.step.Tie as tie
 

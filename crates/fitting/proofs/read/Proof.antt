@@ -4,7 +4,8 @@ use native.Mathlib.Omega.{arith}
 use lib.ListN.{length}
 use borrow.Author.Needs.{needs}
 use Rattle.value_lines.specs.Meaning.{lineNumber, rawAt, numberAt, valuesOf}
-use Rattle.fitting.specs.Read.{over-long, refused-first, checked-done, refused-line, done-count, all-done}
+use Rattle.fitting.specs.Meaning.{fittedOf}
+use Rattle.fitting.specs.Read.{roomyOf, over-long, refused-first, checked-done, refused-line, done-count, all-done}
 use Rattle.fitting.proofs.Answers.{not-done}
 use Rattle.fitting.proofs.read.Statement.{statement}
 use Rattle.fitting.proofs.read.Tie as tie
@@ -16,6 +17,7 @@ enum-known-checked : tie.Need-enum-known-checked
 enum-known-checked c = search needs
 
 returns : tie.Need-returns
+unfolding fittedOf roomyOf
 returns c =
     let a = c .before .before .before .before .before .args in
     refused-first _ _ _ (a .file .now) (a .lines .now) (a .raws .now) (a .answers .now) (a .taps .now) (c .before .check .ensures) (not-done (c .before .check .result) (c .match .keys2))
@@ -47,6 +49,7 @@ same-length-3 : tie.Need-same-length-3
 same-length-3 c = search needs
 
 returns-2 : tie.Need-returns-2
+unfolding fittedOf roomyOf
 returns-2 c =
     let a = c .before .before .before .before .before .before .before .before .before .before .before .before .before .before .before .before .before .before .before .before .args in
     let k = checked-done _ _ _ (a .file .now) (a .lines .now) (a .raws .now) (a .answers .now) (a .taps .now) (c .before .before .before .before .before .before .before .before .before .before .before .before .before .before .before .before .check .ensures) (c .before .before .before .before .before .before .before .before .before .before .before .before .before .before .checked .given .1) in
@@ -74,6 +77,7 @@ same-length-7 : tie.Need-same-length-7
 same-length-7 c = search needs
 
 returns-3 : tie.Need-returns-3
+unfolding fittedOf roomyOf
 returns-3 c =
     let a = c .before .before .before .before .before .before .before .before .before .before .before .before .before .before .before .before .before .before .before .before .before .before .before .before .before .before .args in
     let k = checked-done _ _ _ (a .file .now) (a .lines .now) (a .raws .now) (a .answers .now) (a .taps .now) (c .before .before .before .before .before .before .before .before .before .before .before .before .before .before .before .before .before .before .before .before .before .before .check .ensures) (c .before .before .before .before .before .before .before .before .before .before .before .before .before .before .before .before .before .before .before .before .checked .given .1) in

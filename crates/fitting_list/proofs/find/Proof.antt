@@ -1,4 +1,4 @@
--- `fitting_list::find` meets its contract, as `read` does, with arrays of zeros for the list. Assumes nothing.
+-- `fitting_list::find` meets its contract, as `read` does, with arrays of zero-places for the list. Assumes nothing.
 use mathlib.Core.Path.{ap}
 use native.Mathlib.Omega.{arith}
 use lib.ListN.{length}
@@ -6,7 +6,7 @@ use borrow.Author.Needs.{needs}
 use Rattle.value_lines.specs.Meaning.{lineNumber, rawAt, numberAt, valuesOf}
 use Rattle.fitting.specs.Read.{over-long, refused-first, checked-done, refused-line, done-count, all-done}
 use Rattle.fitting.proofs.Answers.{not-done}
-use Rattle.fitting_list.specs.Records.{zeros, signed-zeros, count-none, count-some}
+use Rattle.fitting_list.specs.Records.{zero-places, signed-zeros, count-none, count-some}
 use Rattle.fitting_list.proofs.find.Statement.{statement}
 use Rattle.fitting_list.proofs.find.Tie as tie
 
@@ -21,7 +21,7 @@ returns c =
     let a = c .before .before .before .args in
     let other = not-done (c .before .check .result) (c .match .keys2) in
     record {
-      lists = refused-first (a .room) (a .room) (a .room) (a .file .now) zeros signed-zeros zeros (a .taps .now) (c .before .check .ensures) other;
+      lists = refused-first (a .room) (a .room) (a .room) (a .file .now) zero-places signed-zeros zero-places (a .taps .now) (c .before .check .ensures) other;
       count = count-none (a .file .now) (a .room) (length (a .taps .now)) (c .before .check .ensures) other;
     }
 
@@ -37,7 +37,7 @@ slice-aggregate-store-3 c = search needs
 store-requires : tie.Need-store-requires
 store-requires c κs =
     let a = c .before .before .before .before .before .before .before .before .args in
-    let k = checked-done (a .room) (a .room) (a .room) (a .file .now) zeros signed-zeros zeros (a .taps .now) (c .before .before .before .before .before .before .check .ensures) (c .before .before .before .before .checked .given .1) in
+    let k = checked-done (a .room) (a .room) (a .room) (a .file .now) zero-places signed-zeros zero-places (a .taps .now) (c .before .before .before .before .before .before .check .ensures) (c .before .before .before .before .checked .given .1) in
     (k .room .short, (k .room .few, (k .room .few, k .room .few)))
 
 cast-n : tie.Need-cast-n
@@ -52,10 +52,10 @@ slice-aggregate-judge-2 c = search needs
 judge-requires : tie.Need-judge-requires
 judge-requires c κs =
     let a = c .before .before .before .before .before .before .before .before .before .before .before .before .before .before .args in
-    let k = checked-done (a .room) (a .room) (a .room) (a .file .now) zeros signed-zeros zeros (a .taps .now) (c .before .before .before .before .before .before .before .before .before .before .before .before .check .ensures) (c .before .before .before .before .before .before .before .before .before .before .checked .given .1) in
+    let k = checked-done (a .room) (a .room) (a .room) (a .file .now) zero-places signed-zeros zero-places (a .taps .now) (c .before .before .before .before .before .before .before .before .before .before .before .before .check .ensures) (c .before .before .before .before .before .before .before .before .before .before .checked .given .1) in
     let st = c .before .before .before .before .before .store .ensures in
     let vs = valuesOf (a .file .now) in
-    (omega (arith, k .count, ap length (st .lines-are), over-long lineNumber vs zeros), omega (arith, k .count, ap length (st .answers-are), over-long numberAt vs zeros))
+    (omega (arith, k .count, ap length (st .lines-are), over-long lineNumber vs zero-places), omega (arith, k .count, ap length (st .answers-are), over-long numberAt vs zero-places))
 
 enum-known-judged : tie.Need-enum-known-judged
 enum-known-judged c = search needs
@@ -63,9 +63,9 @@ enum-known-judged c = search needs
 returns-2 : tie.Need-returns-2
 returns-2 c =
     let a = c .before .before .before .before .before .before .before .before .before .before .before .before .before .before .before .before .args in
-    let k = checked-done (a .room) (a .room) (a .room) (a .file .now) zeros signed-zeros zeros (a .taps .now) (c .before .before .before .before .before .before .before .before .before .before .before .before .before .before .check .ensures) (c .before .before .before .before .before .before .before .before .before .before .before .before .checked .given .1) in
+    let k = checked-done (a .room) (a .room) (a .room) (a .file .now) zero-places signed-zeros zero-places (a .taps .now) (c .before .before .before .before .before .before .before .before .before .before .before .before .before .before .check .ensures) (c .before .before .before .before .before .before .before .before .before .before .before .before .checked .given .1) in
     record {
-      lists = refused-line (a .room) (a .room) (a .room) (a .file .now) zeros signed-zeros zeros (a .taps .now) k (c .before .before .before .before .before .before .before .store .ensures) (c .before .judge .ensures) (not-done (c .before .judge .result) (c .match2 .keys2));
+      lists = refused-line (a .room) (a .room) (a .room) (a .file .now) zero-places signed-zeros zero-places (a .taps .now) k (c .before .before .before .before .before .before .before .store .ensures) (c .before .judge .ensures) (not-done (c .before .judge .result) (c .match2 .keys2));
       count = count-some (a .file .now) (a .room) (length (a .taps .now)) (k .count) (k .none);
     }
 
@@ -75,10 +75,10 @@ slice-aggregate-keep c = search needs
 keep-requires : tie.Need-keep-requires
 keep-requires c κs =
     let a = c .before .before .before .before .before .before .before .before .before .before .before .before .before .before .before .before .before .before .before .before .args in
-    let k = checked-done (a .room) (a .room) (a .room) (a .file .now) zeros signed-zeros zeros (a .taps .now) (c .before .before .before .before .before .before .before .before .before .before .before .before .before .before .before .before .before .before .check .ensures) (c .before .before .before .before .before .before .before .before .before .before .before .before .before .before .before .before .checked .given .1) in
+    let k = checked-done (a .room) (a .room) (a .room) (a .file .now) zero-places signed-zeros zero-places (a .taps .now) (c .before .before .before .before .before .before .before .before .before .before .before .before .before .before .before .before .before .before .check .ensures) (c .before .before .before .before .before .before .before .before .before .before .before .before .before .before .before .before .checked .given .1) in
     let st = c .before .before .before .before .before .before .before .before .before .before .before .store .ensures in
     let vs = valuesOf (a .file .now) in
-    let same = done-count (a .room) (a .room) (a .room) (a .file .now) zeros signed-zeros zeros (a .taps .now) k st (c .before .before .before .before .before .judge .ensures) (c .before .before .before .judged .given .1) in
+    let same = done-count (a .room) (a .room) (a .room) (a .file .now) zero-places signed-zeros zero-places (a .taps .now) k st (c .before .before .before .before .before .judge .ensures) (c .before .before .before .judged .given .1) in
     (omega (arith, same, ap length (st .raws-are), over-long rawAt vs signed-zeros), omega (arith, same, k .room .taps-room))
 
 same-length : tie.Need-same-length
@@ -87,9 +87,9 @@ same-length c = search needs
 returns-3 : tie.Need-returns-3
 returns-3 c =
     let a = c .before .before .before .before .before .before .before .before .before .before .before .before .before .before .before .before .before .before .before .before .before .before .args in
-    let k = checked-done (a .room) (a .room) (a .room) (a .file .now) zeros signed-zeros zeros (a .taps .now) (c .before .before .before .before .before .before .before .before .before .before .before .before .before .before .before .before .before .before .before .before .check .ensures) (c .before .before .before .before .before .before .before .before .before .before .before .before .before .before .before .before .before .before .checked .given .1) in
+    let k = checked-done (a .room) (a .room) (a .room) (a .file .now) zero-places signed-zeros zero-places (a .taps .now) (c .before .before .before .before .before .before .before .before .before .before .before .before .before .before .before .before .before .before .before .before .check .ensures) (c .before .before .before .before .before .before .before .before .before .before .before .before .before .before .before .before .before .before .checked .given .1) in
     record {
-      lists = all-done (a .room) (a .room) (a .room) (a .file .now) zeros signed-zeros zeros (a .taps .now) k (c .before .before .before .before .before .before .before .before .before .before .before .before .before .store .ensures) (c .before .before .before .before .before .before .before .judge .ensures) (c .before .before .before .before .before .judged .given .1) (c .before .keep .ensures);
+      lists = all-done (a .room) (a .room) (a .room) (a .file .now) zero-places signed-zeros zero-places (a .taps .now) k (c .before .before .before .before .before .before .before .before .before .before .before .before .before .store .ensures) (c .before .before .before .before .before .before .before .judge .ensures) (c .before .before .before .before .before .judged .given .1) (c .before .keep .ensures);
       count = count-some (a .file .now) (a .room) (length (a .taps .now)) (k .count) (k .none);
     }
 

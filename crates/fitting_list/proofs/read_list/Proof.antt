@@ -55,7 +55,7 @@ use Rattle.fitting.proofs.FileAnswer as O
 use Rattle.fitting.proofs.FileAnswer.Laws as O′
 use Rattle.fitting_list.specs.declared.Entry.{Entry}
 use Rattle.fitting_list.specs.declared.Found.{Found}
-use Rattle.fitting_list.specs.Promise.{records, recordsOf}
+use Rattle.fitting_list.specs.Meaning.{records, recordsOf}
 use Rattle.fitting_list.specs.Records.{FoundIs, entryAt}
 use Rattle.fitting_list.specs.Filled.{filled, length-filled, filled-zero, filled-next, count-small, handed}
 use Rattle.fitting_list.proofs.Entry as T

@@ -4,7 +4,7 @@ use Prim.Native.Nat.{ℕ, _*_}
 use native.Mathlib.Omega.{arith}
 use lib.Pow.{pow-pos}
 use borrow.Author.Needs.{needs}
-use Rattle.fold.specs.Fold.{foldOf, valueOf, scale-over, scale-under, bit-fits}
+use Rattle.fold.specs.Fold.{foldOf, foldedValue, scale-over, scale-under, bit-fits}
 use Rattle.fold.proofs.scaled.Statement.{statement}
 use Rattle.fold.proofs.scaled.Tie as tie
 
@@ -18,7 +18,7 @@ times-requires : tie.Need-times-requires
 times-requires c κs = omega (arith, c .shl-word .ensures, pow-pos (c .before .before .args .k))
 
 returns : tie.Need-returns
-returns c = c .times .ensures ∙ ap foldOf (omega (arith, ap (λ (m : ℕ). valueOf (c .before .before .before .args .x) * m) (c .before .shl-word .ensures)))
+returns c = c .times .ensures ∙ ap foldOf (omega (arith, ap (λ (m : ℕ). foldedValue (c .before .before .before .args .x) * m) (c .before .shl-word .ensures)))
 
 returns-2 : tie.Need-returns-2
 returns-2 c = scale-over (c .before .before .args .x) (c .before .before .args .k) (c .before .if1 .left) refl (c .if2 .taken) refl

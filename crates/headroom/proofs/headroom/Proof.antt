@@ -9,7 +9,7 @@ use borrow.Author.Needs.{needs}
 use Rattle.format.specs.declared.UnsignedAnswer.the-variants.{Done as DoneU}
 use Rattle.filter.specs.Refuse.{refuses, goes-on}
 use Rattle.headroom.specs.Head.{head-fit}
-use Rattle.headroom.specs.Promise.{headed, headroomOf}
+use Rattle.headroom.specs.Meaning.{headed, headroomOf}
 use Rattle.headroom.proofs.headroom.Statement.{statement}
 use Rattle.headroom.proofs.headroom.Tie as tie
 

@@ -4,8 +4,8 @@ use Prim.Native.Nat.{ℕ, _+_, _^_, _<_}
 use mathlib.Core.List.{_++_}
 use lib.ListN.{replicate}
 use borrow.Author.Needs.{needs}
-use Rattle.fold.specs.Fold.{foldOf, valueOf}
-use Rattle.fold.specs.Body.{digitsFrom}
+use Rattle.fold.specs.Fold.{foldOf, foldedValue}
+use Rattle.fold.specs.Body.{digitsAt}
 use Rattle.tens.specs.Digits.{small-zeros}
 use Rattle.tens.specs.Prefix.{leadOf, first-below}
 use Rattle.tens.specs.Walk.{lead-fits}
@@ -19,7 +19,7 @@ first-requires c κs = search needs
 side-requires : tie.Need-side-requires
 side-requires c κs =
     let s = c .before .before in
-    let ds = digitsFrom (s .args .body .now) (s .args .from) in
+    let ds = digitsAt (s .args .body .now) (s .args .from) in
     let less = first-below (s .args .frac) (leadOf 27 (replicate (s .args .zeros) 0 ++ ds)) (lead-fits (s .args .zeros) ds (s .pre .2)) in
     (s .pre .0, s .pre .1, s .pre .2, s .pre .4, subst (λ (n : ℕ). n < 2 ^ s .args .frac) (sym (c .first .ensures)) less)
 
@@ -40,10 +40,10 @@ returns c =
     let first = c .before .before .before .before .before in
     let sum = c .before .before in
     let s = first .before .before in
-    let ds = digitsFrom (s .args .body .now) (s .args .from) in
-    beside-folded (replicate (s .args .zeros) 0 ++ ds) (small-zeros (s .args .zeros) ds (s .pre .2)) (s .args .frac) (s .pre .4) (valueOf (s .args .whole))
+    let ds = digitsAt (s .args .body .now) (s .args .from) in
+    beside-folded (replicate (s .args .zeros) 0 ++ ds) (small-zeros (s .args .zeros) ds (s .pre .2)) (s .args .frac) (s .pre .4) (foldedValue (s .args .whole))
     (first .first .result) (first .first .ensures) (c .before .before .before .before .side .ensures)
-    (c .before .before .before .scaled .ensures) (sum .add .ensures) (c .add2 .ensures ∙ ap (λ (n : ℕ). foldOf (valueOf (sum .add .result) + n)) (c .before .carry .ensures))
+    (c .before .before .before .scaled .ensures) (sum .add .ensures) (c .add2 .ensures ∙ ap (λ (n : ℕ). foldOf (foldedValue (sum .add .result) + n)) (c .before .carry .ensures))
 
 pub beside-spec : {M : Type 1} → statement M
 beside-spec =

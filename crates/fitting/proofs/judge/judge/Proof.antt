@@ -3,12 +3,12 @@ use mathlib.Core.Path.{_≡_, refl, _∙_}
 use Prim.Native.Nat.{_-_, _≤_}
 use native.Mathlib.Omega.{arith}
 use borrow.Author.Needs.{needs}
-use Rattle.fitting.specs.Judge.{leftOf, left-here, left-next, left-none}
+use Rattle.fitting.specs.Judge.{judgedFrom, left-here, left-next, left-none}
 use Rattle.fitting.proofs.judge.judge.Statement.{statement}
 use Rattle.fitting.proofs.judge.judge.Tie as tie
 
 abbrev Inv-loop : tie.InvT-loop
-Inv-loop lines answers values n i₀ i = (i ≤ n) × (leftOf values lines answers i ≡ leftOf values lines answers 0)
+Inv-loop lines answers values n i₀ i = (i ≤ n) × (judgedFrom values lines answers i ≡ judgedFrom values lines answers 0)
 
 abbrev μ-loop : tie.MeasureT-loop
 μ-loop lines answers values n i₀ i = n - i

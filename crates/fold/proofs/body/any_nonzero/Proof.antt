@@ -3,12 +3,12 @@ use mathlib.Core.Path.{_≡_, refl, sym, _∙_}
 use Prim.Native.Nat.{_-_, _≤_}
 use native.Mathlib.Omega.{arith}
 use lib.ListN.{length}
-use Rattle.fold.specs.Body.{digitsFrom, anyOf, any-here, any-later, any-end}
+use Rattle.fold.specs.Body.{digitsAt, anyOf, any-here, any-later, any-end}
 use Rattle.fold.proofs.body.any_nonzero.Statement.{statement}
 use Rattle.fold.proofs.body.any_nonzero.Tie as tie
 
 abbrev Inv-loop : tie.InvT-loop
-Inv-loop body from i₀ i = (i ≤ length body) × (anyOf (digitsFrom body i) ≡ anyOf (digitsFrom body from))
+Inv-loop body from i₀ i = (i ≤ length body) × (anyOf (digitsAt body i) ≡ anyOf (digitsAt body from))
 
 abbrev μ-loop : tie.MeasureT-loop
 μ-loop body from i₀ i = length body - i

@@ -4,12 +4,12 @@ use Prim.Native.Nat.{_-_, _≤_}
 use native.Mathlib.Omega.{arith}
 use borrow.Author.Needs.{needs}
 use lib.ListN.{length}
-use Rattle.fold.specs.Body.{digitsFrom, from-gap, next-found, next-none}
+use Rattle.fold.specs.Body.{digitsAt, from-gap, next-found, next-none}
 use Rattle.fold.proofs.body.next_digit.Statement.{statement}
 use Rattle.fold.proofs.body.next_digit.Tie as tie
 
 abbrev Inv-loop : tie.InvT-loop
-Inv-loop body from i₀ i = (i ≤ length body) × (digitsFrom body i ≡ digitsFrom body from)
+Inv-loop body from i₀ i = (i ≤ length body) × (digitsAt body i ≡ digitsAt body from)
 
 abbrev μ-loop : tie.MeasureT-loop
 μ-loop body from i₀ i = length body - i

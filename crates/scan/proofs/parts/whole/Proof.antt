@@ -2,7 +2,7 @@
 use mathlib.Core.Path.{refl}
 use mathlib.Core.Bool.{false}
 use native.Mathlib.Omega.{arith}
-use Rattle.grammar.specs.Automaton.{blank}
+use Rattle.grammar.specs.Meaning.{blank}
 use Rattle.scan.specs.Found.{wholeOf}
 use Rattle.scan.specs.Parts.{part-end, part-after, part-point, wholeParsed, run-to, run-counted, run-start, run-body, whole-ready, whole-is, whole-same}
 use borrow.Author.Needs.{needs}

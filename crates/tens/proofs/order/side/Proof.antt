@@ -4,7 +4,7 @@ use Prim.Native.Nat.{ℕ, _^_}
 use lib.Dec.{lit<}
 use borrow.Author.Needs.{needs}
 use Rattle.tens.specs.Order.{orderTen, sinkOf, order-sink}
-use Rattle.fold.specs.Body.{digitsFrom}
+use Rattle.fold.specs.Body.{digitsAt}
 use Rattle.tens.proofs.order.side.Statement.{statement}
 use Rattle.tens.proofs.order.side.Tie as tie
 
@@ -20,7 +20,7 @@ walk-requires c κs = search needs
 returns : tie.Need-returns
 returns c =
     let a = c .before .before .before .before in
-    let ds = digitsFrom (a .args .body .now) (a .args .from) in
+    let ds = digitsAt (a .args .body .now) (a .args .from) in
     c .walk .ensures
     ∙ ap (λ (n : ℕ). orderTen ds n (2 ^ 64)) (c .before .sink .ensures ∙ ap (λ (n : ℕ). sinkOf (a .args .zeros) n (2 ^ 64)) (c .before .before .middle .ensures))
     ∙ sym (order-sink (a .args .zeros) ds _ (2 ^ 64) (lit< tt) (a .pre .2))

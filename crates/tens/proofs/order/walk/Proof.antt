@@ -5,17 +5,16 @@ use Prim.Native.Nat.{ℕ, _-_, _^_, _≤_}
 use native.Mathlib.Omega.{arith}
 use borrow.Author.Needs.{needs}
 use lib.ListN.{length}
-use Rattle.wide.specs.Meaning.{valueOf}
-use Rattle.wide.specs.Theorems.{Words}
+use Rattle.wide.specs.Meaning.{valueOf, Words}
 use Rattle.tens.specs.Order.{orderTen}
-use Rattle.fold.specs.Body.{digitsFrom}
+use Rattle.fold.specs.Body.{digitsAt}
 use Rattle.tens.specs.Walk.{walk-less, walk-more, walk-next, walk-same, walk-above, walk-below, next-length}
 use Rattle.tens.proofs.order.walk.Statement.{statement}
 use Rattle.tens.proofs.order.walk.Tie as tie
 
 abbrev Inv-loop : tie.InvT-loop
 Inv-loop body from count rest₀ at₀ left₀ rest at left =
-    (at ≤ length body) × (left ≡ length (digitsFrom body at)) × (orderTen (digitsFrom body at) (valueOf rest) (2 ^ 64) ≡ orderTen (digitsFrom body from) (valueOf rest₀) (2 ^ 64))
+    (at ≤ length body) × (left ≡ length (digitsAt body at)) × (orderTen (digitsAt body at) (valueOf rest) (2 ^ 64) ≡ orderTen (digitsAt body from) (valueOf rest₀) (2 ^ 64))
 
 abbrev μ-loop : tie.MeasureT-loop
 μ-loop body from count rest₀ at₀ left₀ rest at left = left

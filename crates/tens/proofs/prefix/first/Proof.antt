@@ -3,7 +3,7 @@ use mathlib.Core.Path.{_∙_, sym, ap, subst}
 use Prim.Native.Nat.{ℕ, _^_, _<_}
 use borrow.Author.Needs.{needs}
 use Rattle.tens.specs.Prefix.{firstRaw}
-use Rattle.fold.specs.Body.{digitsFrom}
+use Rattle.fold.specs.Body.{digitsAt}
 use Rattle.tens.specs.Walk.{lead-fits}
 use Rattle.tens.proofs.prefix.first.Statement.{statement}
 use Rattle.tens.proofs.prefix.first.Tie as tie
@@ -14,7 +14,7 @@ lead-requires c κs = search needs
 first-raw-requires : tie.Need-first-raw-requires
 first-raw-requires c κs =
     let s = c .before .before in
-    (subst (λ (n : ℕ). n < 10 ^ 27) (sym (c .lead .ensures)) (lead-fits (s .args .zeros) (digitsFrom (s .args .body .now) (s .args .from)) (s .pre .2)), s .pre .3)
+    (subst (λ (n : ℕ). n < 10 ^ 27) (sym (c .lead .ensures)) (lead-fits (s .args .zeros) (digitsAt (s .args .body .now) (s .args .from)) (s .pre .2)), s .pre .3)
 
 returns : tie.Need-returns
 returns c =

@@ -4,7 +4,7 @@ use Prim.Native.Nat.{_-_}
 use native.Mathlib.Omega.{arith}
 use borrow.Author.Needs.{needs}
 use Rattle.tens.specs.Digits.{Small, small-drop}
-use Rattle.fold.specs.Body.{digitsFrom}
+use Rattle.fold.specs.Body.{digitsAt}
 use Rattle.tens.specs.Walk.{group-two, group-sum}
 use Rattle.tens.proofs.prefix.lead.Statement.{statement}
 use Rattle.tens.proofs.prefix.lead.Tie as tie
@@ -19,7 +19,7 @@ take-requires-2 : tie.Need-take-requires-2
 take-requires-2 c κs =
     let s = c .before .before in
     let upper = c .take .ensures in
-    (upper .within, omega arith, subst Small (sym (upper .rest)) (small-drop (19 - s .args .zeros) (digitsFrom (s .args .body .now) (s .args .from)) (s .pre .2)))
+    (upper .within, omega arith, subst Small (sym (upper .rest)) (small-drop (19 - s .args .zeros) (digitsAt (s .args .body .now) (s .args .from)) (s .pre .2)))
 
 mul-requires : tie.Need-mul-requires
 mul-requires c κs = search needs

@@ -5,20 +5,20 @@ use native.Mathlib.Omega.{arith}
 use borrow.Author.Needs.{needs}
 use lib.ListN.{length, drop}
 use Rattle.tens.specs.Prefix.{leadFrom, leadOf}
-use Rattle.fold.specs.Body.{digitsFrom}
+use Rattle.fold.specs.Body.{digitsAt}
 use Rattle.tens.specs.Walk.{group-next, group-fits, group-rest, group-end}
 use Rattle.tens.proofs.prefix.take.Statement.{statement}
 use Rattle.tens.proofs.prefix.take.Tie as tie
 
 abbrev Inv-loop : tie.InvT-loop
 Inv-loop body from count value₀ at₀ k₀ value at k =
-    (k ≤ count) × (at ≤ length body) × (leadFrom (count - k) (digitsFrom body at) value ≡ leadOf count (digitsFrom body from)) × (digitsFrom body at ≡ drop k (digitsFrom body from))
+    (k ≤ count) × (at ≤ length body) × (leadFrom (count - k) (digitsAt body at) value ≡ leadOf count (digitsAt body from)) × (digitsAt body at ≡ drop k (digitsAt body from))
 
 abbrev μ-loop : tie.MeasureT-loop
 μ-loop body from count value₀ at₀ k₀ value at k = count - k
 
 loop-holds : tie.Need-loop-holds Inv-loop μ-loop
-loop-holds c = (search needs, search needs, ap (λ (n : ℕ). leadFrom n (digitsFrom (c .before .args .body .now) (c .before .args .from)) 0) (omega arith), refl)
+loop-holds c = (search needs, search needs, ap (λ (n : ℕ). leadFrom n (digitsAt (c .before .args .body .now) (c .before .args .from)) 0) (omega arith), refl)
 
 next-digit-requires : tie.Need-next-digit-requires Inv-loop μ-loop
 next-digit-requires c κs = search needs

@@ -5,7 +5,7 @@ use mir.Syntax.{w64}
 use mir.Facts.{toZ-ofZ}
 use Rattle.format.specs.Meaning.{unsignedAnswer}
 use Rattle.float.specs.Meaning.{binary32}
-use Rattle.to_float.specs.Meaning.{toOf}
+use Rattle.to_float.specs.Meaning.{toFloatOf}
 use borrow.Author.Needs.{needs}
 use Rattle.to_float.proofs.signed.to_f32.Statement.{statement}
 use Rattle.to_float.proofs.signed.to_f32.Tie as tie
@@ -16,7 +16,7 @@ to-requires c κs = search needs
 returns : tie.Need-returns
 returns c =
     let s = c .before in
-    c .to .ensures ∙ ap (λ (z : ℤ). unsignedAnswer (toOf binary32 (s .args .width) (s .args .frac) z)) (toZ-ofZ {w = w64} (s .fits .raw))
+    c .to .ensures ∙ ap (λ (z : ℤ). unsignedAnswer (toFloatOf binary32 (s .args .width) (s .args .frac) z)) (toZ-ofZ {w = w64} (s .fits .raw))
 
 pub to-f32-spec : {M : Type 1} → statement M
 to-f32-spec = tie.close (tie.spec to-requires returns)
