@@ -66,7 +66,7 @@ def functions(crate, row):
     for module, name, contract in public(crate):
         full = "::".join(filter(None, (crate.name, module, name)))
         see(named(module, name, row, row), f"docs/PROMISES.md: {full} is not in its row")
-        ensures = "".join(re.findall(r"ensures \{ λ [r_]\. ⌜(.*?)⌝", contract))
+        ensures = "".join(re.findall(r"ensures \{ λ [r_]\. ⌜(.*?)⌝", contract, re.S))
         promise = [one for one in re.findall(r"\b[A-Z]\w+", ensures) if one not in ("Signed", "Unsigned", "File")][:1]
         if "no promise" not in row and "mathematics only" not in row:
             see(named(module, name, table, pages), f"docs/promises: {full} is in no table of its page")

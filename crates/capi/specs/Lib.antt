@@ -1,2 +1,3 @@
-pub mod Answer
-pub mod File
+pub mod Copies
+pub mod Meaning
+pub mod Promise
