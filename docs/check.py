@@ -18,7 +18,7 @@ FUNCTION = re.compile(r'^pub (?:extern "C" )?fn (\w+)(.*?)(?:^| )\{$', re.M | re
 INNER = re.compile(r"^pub\(crate\) fn (\w+)(.*?)(?:^| )\{$", re.M | re.S)
 PATH = re.compile(r"(?<![\w/.])(?:(?:crates|oracle|docs|include|tests|bindings|specs|proofs|must-fail)/[\w./-]*\w|\w+\.antt)")
 DECLARED = re.compile(r"^\s*(?:(?:pub|unfoldable|abbrev|opaque|record|data) +)*([^\s:]+)", re.M)
-SIGNS = (("S(?=[A-Z])", "Signed", "Unsigned"), ("(?<=_)S(?![a-zA-Z])", "signed", "unsigned"), ("^S(?=-)", "signed", "unsigned"))
+SIGNS = (("S(?=[A-Z])", "Signed", "Unsigned"), ("(?<=_)S(?![a-zA-Z])", "signed", "unsigned"), ("(?:^|(?<=-))S(?=-)", "signed", "unsigned"))
 seen = []
 
 

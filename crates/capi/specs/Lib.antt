@@ -1,3 +1,4 @@
 pub mod Copies
+pub mod Lent
 pub mod Meaning
 pub mod Promise
