@@ -22,7 +22,7 @@ FUNCTION = re.compile(r'^pub (?:extern "C" )?fn (\w+)(.*?)(?:^| )\{$', re.M | re
 INNER = re.compile(r"^pub\(crate\) fn (\w+)(.*?)(?:^| )\{$", re.M | re.S)
 PATH = re.compile(r"(?<![\w/.])(?:(?:crates|oracle|docs|include|tests|bindings|specs|proofs|must-fail)/[\w./-]*\w|\w+\.antt)")
 DECLARED = re.compile(r"^\s*(?:(?:pub|unfoldable|abbrev|opaque|record|data) +)*([^\s:]+)", re.M)
-SIGNS = (("S(?=[A-Z])", "Signed", "Unsigned"), ("(?<=_)S(?![a-zA-Z])", "signed", "unsigned"), ("^S(?=-)", "signed", "unsigned"))
+SIGNS = (("S(?=[A-Z])", "Signed", "Unsigned"), ("(?<=_)S(?![a-zA-Z])", "signed", "unsigned"), ("(?:^|(?<=-))S(?=-)", "signed", "unsigned"))
 seen = []
 
 
@@ -70,7 +70,7 @@ def functions(crate, row):
     for module, name, contract in public(crate):
         full = "::".join(filter(None, (crate.name, module, name)))
         see(named(module, name, row, row), f"docs/PROMISES.md: {full} is not in its row")
-        ensures = "".join(re.findall(r"ensures \{ λ [r_]\. ⌜(.*?)⌝", contract))
+        ensures = "".join(re.findall(r"ensures \{ λ [r_]\. ⌜(.*?)⌝", contract, re.S))
         promise = [one for one in re.findall(r"\b[A-Z]\w+", ensures) if one not in ("Signed", "Unsigned", "File")][:1]
         if "no promise" not in row and "mathematics only" not in row:
             see(named(module, name, table, pages), f"docs/promises: {full} is in no table of its page")

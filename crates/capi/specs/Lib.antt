@@ -1,2 +1,4 @@
-pub mod Answer
-pub mod File
+pub mod Copies
+pub mod Lent
+pub mod Meaning
+pub mod Promise

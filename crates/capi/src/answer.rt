@@ -1,6 +1,6 @@
 // Answers and manners as C has them: numbers in place of enums.
 ghost use mathlib.Core.Path.{_≡_};
-ghost use Rattle.capi.specs.Answer.{signedOf, unsignedOf, mannerOf};
+ghost use Rattle.capi.specs.Meaning.{signedOf, unsignedOf, mannerOf};
 use format::Manner;
 use format::SignedAnswer;
 use format::UnsignedAnswer;

@@ -2,7 +2,8 @@
 ghost use Rattle.arith.specs.Promise.{SignedAdd, SignedSub, SignedMul, SignedDiv, SignedRem, SignedNeg};
 ghost use Rattle.arith.specs.Promise.{UnsignedAdd, UnsignedSub, UnsignedMul, UnsignedDiv, UnsignedRem, UnsignedNeg};
 ghost use Rattle.shift.specs.Promise.{SignedShl, SignedShr, UnsignedShl, UnsignedShr};
-ghost use Rattle.capi.specs.Answer.{Signed, Unsigned, mannerOf};
+ghost use Rattle.capi.specs.Meaning.{mannerOf};
+ghost use Rattle.capi.specs.Promise.{Signed, Unsigned};
 use crate::answer;
 use crate::answer::CSigned;
 use crate::answer::CUnsigned;

@@ -1,8 +1,9 @@
 // tq_swap_bytes_S, tq_to_be_bytes_S and the others: the bytes of a raw, in either order.
 ghost use lib.IntN.{pos};
 ghost use Rattle.byte_order.specs.Meaning.{bigOf, littleOf};
-ghost use Rattle.byte_order.specs.Promise.{SignedSwap, UnsignedSwap, Stored, SignedFromBe, SignedFromLe, UnsignedFromBe, UnsignedFromLe};
-ghost use Rattle.capi.specs.Answer.{Signed, Unsigned};
+ghost use Rattle.byte_order.specs.Promise.{SignedSwap, UnsignedSwap, Stored};
+ghost use Rattle.byte_order.specs.Promise.{SignedFromBe, SignedFromLe, UnsignedFromBe, UnsignedFromLe};
+ghost use Rattle.capi.specs.Promise.{Signed, Unsigned};
 use crate::answer;
 use crate::answer::CSigned;
 use crate::answer::CUnsigned;

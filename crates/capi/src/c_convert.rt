@@ -1,6 +1,7 @@
 // tq_convert_*: a raw of one format as a raw of another.
 ghost use Rattle.convert.specs.Promise.{SignedToSigned, SignedToUnsigned, UnsignedToSigned, UnsignedToUnsigned};
-ghost use Rattle.capi.specs.Answer.{Signed, Unsigned, mannerOf};
+ghost use Rattle.capi.specs.Meaning.{mannerOf};
+ghost use Rattle.capi.specs.Promise.{Signed, Unsigned};
 use crate::answer;
 use crate::answer::CSigned;
 use crate::answer::CUnsigned;

@@ -2,7 +2,7 @@
 ghost use Rattle.filter.specs.Meaning.{stateOf};
 ghost use Rattle.filter.specs.Promise.{Runs};
 ghost use Rattle.headroom.specs.Promise.{Heads};
-ghost use Rattle.capi.specs.Answer.{Unsigned};
+ghost use Rattle.capi.specs.Promise.{Unsigned};
 use crate::answer;
 use crate::answer::CUnsigned;
 
@@ -14,7 +14,10 @@ pub extern "C" fn tq_filter(
     outputs: &mut [i16],
     clips: &mut [u8],
 ) -> CUnsigned
-    ensures { λ r. ⌜ Unsigned (λ a. Runs (now (taps .entry)) (stateOf (now (state .entry))) (now (samples .entry)) (now (outputs .entry)) (now (clips .entry)) a (stateOf (now (state .exit))) (now (outputs .exit)) (now (clips .exit))) r ⌝ }
+    ensures { λ r. ⌜ Unsigned (λ a. Runs
+        (now (taps .entry)) (stateOf (now (state .entry))) (now (samples .entry))
+        (now (outputs .entry)) (now (clips .entry))
+        a (stateOf (now (state .exit))) (now (outputs .exit)) (now (clips .exit))) r ⌝ }
 {
     answer::unsigned(filter::run(taps, state, samples, outputs, clips))
 }

@@ -1,7 +1,8 @@
 // tq_fitting: a fitting file as a list of line number, raw and answer, and its taps.
 ghost use mathlib.Core.Path.{_≡_};
 ghost use Rattle.fitting.specs.Promise.{Reads};
-ghost use Rattle.capi.specs.File.{File, fileOf};
+ghost use Rattle.capi.specs.Meaning.{fileOf};
+ghost use Rattle.capi.specs.Promise.{File};
 use fitting::FileAnswer;
 
 const REFUSED_LINE: u32 = 42;
@@ -48,7 +49,9 @@ pub extern "C" fn tq_fitting(
     answers: &mut [u32],
     taps: &mut [i16],
 ) -> CFile
-    ensures { λ r. ⌜ File (λ a. Reads (now (file .entry)) (now (lines .entry)) (now (raws .entry)) (now (answers .entry)) (now (taps .entry)) a (now (lines .exit)) (now (raws .exit)) (now (answers .exit)) (now (taps .exit))) r ⌝ }
+    ensures { λ r. ⌜ File (λ a. Reads
+        (now (file .entry)) (now (lines .entry)) (now (raws .entry)) (now (answers .entry)) (now (taps .entry))
+        a (now (lines .exit)) (now (raws .exit)) (now (answers .exit)) (now (taps .exit))) r ⌝ }
 {
     copied(fitting::read(file, lines, raws, answers, taps))
 }

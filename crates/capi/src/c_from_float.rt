@@ -1,6 +1,7 @@
 // tq_from_f32_S and tq_from_f64_S: patterns into a format, in the manner that its number stands for.
 ghost use Rattle.from_float.specs.Promise.{SignedF32, SignedF64, UnsignedF32, UnsignedF64};
-ghost use Rattle.capi.specs.Answer.{Signed, Unsigned, mannerOf};
+ghost use Rattle.capi.specs.Meaning.{mannerOf};
+ghost use Rattle.capi.specs.Promise.{Signed, Unsigned};
 use crate::answer;
 use crate::answer::CSigned;
 use crate::answer::CUnsigned;

@@ -1,7 +1,10 @@
 // tq_abs_S to tq_mean_S: more arithmetic on raws, in the manner that its number stands for.
-ghost use Rattle.further.specs.Promise.{SignedAbs, SignedSignum, SignedRemEuclid, SignedDivEuclid, SignedMulAdd, SignedDist, SignedMean};
-ghost use Rattle.further.specs.Promise.{UnsignedAbs, UnsignedSignum, UnsignedRemEuclid, UnsignedDivEuclid, UnsignedMulAdd, UnsignedDist, UnsignedMean};
-ghost use Rattle.capi.specs.Answer.{Signed, Unsigned, mannerOf};
+ghost use Rattle.further.specs.Promise.{SignedAbs, SignedSignum, SignedRemEuclid, SignedDivEuclid};
+ghost use Rattle.further.specs.Promise.{SignedMulAdd, SignedDist, SignedMean};
+ghost use Rattle.further.specs.Promise.{UnsignedAbs, UnsignedSignum, UnsignedRemEuclid, UnsignedDivEuclid};
+ghost use Rattle.further.specs.Promise.{UnsignedMulAdd, UnsignedDist, UnsignedMean};
+ghost use Rattle.capi.specs.Meaning.{mannerOf};
+ghost use Rattle.capi.specs.Promise.{Signed, Unsigned};
 use crate::answer;
 use crate::answer::CSigned;
 use crate::answer::CUnsigned;

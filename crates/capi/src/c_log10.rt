@@ -1,6 +1,6 @@
 // tq_log10_signed, tq_log10_unsigned: the greatest k with 10^k at most the value.
 ghost use Rattle.log10.specs.Promise.{SignedLog10, UnsignedLog10};
-ghost use Rattle.capi.specs.Answer.{Signed};
+ghost use Rattle.capi.specs.Promise.{Signed};
 use crate::answer;
 use crate::answer::CSigned;
 

@@ -1,6 +1,7 @@
 // tq_read_signed, tq_read_unsigned, tq_literal_signed, tq_literal_unsigned: a text to the nearest number of a format.
 ghost use Rattle.text.specs.Promise.{ReadSigned, ReadUnsigned, LiteralSigned, LiteralUnsigned};
-ghost use Rattle.capi.specs.Answer.{Signed, Unsigned, mannerOf};
+ghost use Rattle.capi.specs.Meaning.{mannerOf};
+ghost use Rattle.capi.specs.Promise.{Signed, Unsigned};
 use crate::answer;
 use crate::answer::CSigned;
 use crate::answer::CUnsigned;

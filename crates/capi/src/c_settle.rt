@@ -1,6 +1,8 @@
-// tq_settle_signed, tq_settle_unsigned: an exact number, as a sign and two words, into a format. neg is 0 for a number that is not negative.
+// tq_settle_signed, tq_settle_unsigned: an exact number, as a sign and two words, into a format.
+// neg is 0 for a number that is not negative.
 ghost use Rattle.format.specs.Promise.{SettleSigned, SettleUnsigned};
-ghost use Rattle.capi.specs.Answer.{Signed, Unsigned, mannerOf, someOf};
+ghost use Rattle.capi.specs.Meaning.{mannerOf, someOf};
+ghost use Rattle.capi.specs.Promise.{Signed, Unsigned};
 use crate::answer;
 use crate::answer::CSigned;
 use crate::answer::CUnsigned;

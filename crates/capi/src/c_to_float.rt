@@ -1,6 +1,6 @@
 // tq_to_f32_S, tq_to_f64_S: the pattern of a raw's number.
 ghost use Rattle.to_float.specs.Promise.{SignedToF32, SignedToF64, UnsignedToF32, UnsignedToF64};
-ghost use Rattle.capi.specs.Answer.{Unsigned};
+ghost use Rattle.capi.specs.Promise.{Unsigned};
 use crate::answer;
 use crate::answer::CUnsigned;
 

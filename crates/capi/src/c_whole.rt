@@ -1,7 +1,9 @@
 // tq_floor_S to tq_frac_S: whole numbers of a format, in the manner that its number stands for.
 ghost use Rattle.whole.specs.Promise.{SignedFloor, SignedCeil, SignedRound, SignedEven, SignedInt, SignedFrac};
-ghost use Rattle.whole.specs.Promise.{UnsignedFloor, UnsignedCeil, UnsignedRound, UnsignedEven, UnsignedInt, UnsignedFrac};
-ghost use Rattle.capi.specs.Answer.{Signed, Unsigned, mannerOf};
+ghost use Rattle.whole.specs.Promise.{UnsignedFloor, UnsignedCeil, UnsignedRound, UnsignedEven};
+ghost use Rattle.whole.specs.Promise.{UnsignedInt, UnsignedFrac};
+ghost use Rattle.capi.specs.Meaning.{mannerOf};
+ghost use Rattle.capi.specs.Promise.{Signed, Unsigned};
 use crate::answer;
 use crate::answer::CSigned;
 use crate::answer::CUnsigned;

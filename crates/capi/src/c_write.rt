@@ -1,6 +1,6 @@
 // tq_write_signed, tq_write_unsigned: the exact decimal text of a raw, into a lent buffer.
 ghost use Rattle.decimal.specs.Promise.{WriteSigned, WriteUnsigned};
-ghost use Rattle.capi.specs.Answer.{Unsigned};
+ghost use Rattle.capi.specs.Promise.{Unsigned};
 use crate::answer;
 use crate::answer::CUnsigned;
 

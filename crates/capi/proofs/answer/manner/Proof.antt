@@ -1,6 +1,6 @@
 -- `capi::answer::manner` meets its contract, by the tests. Assumes nothing.
 use Rattle.laws.specs.Rules.{tests}
-use Rattle.capi.specs.Answer.{mannerOf}
+use Rattle.capi.specs.Meaning.{mannerOf}
 use Rattle.capi.proofs.answer.manner.Statement.{statement}
 use Rattle.capi.proofs.answer.manner.Tie as tie
 

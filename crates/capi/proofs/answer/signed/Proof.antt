@@ -1,7 +1,7 @@
 -- `capi::answer::signed` meets its contract: each case is copied. Assumes nothing.
 use mir.Syntax.{w64}
 use Rattle.laws.specs.Signed.{ok-back}
-use Rattle.capi.specs.Answer.{copied-signed, copied-refusal-signed}
+use Rattle.capi.specs.Copies.{copied-signed, copied-refusal-signed}
 use borrow.Author.Needs.{needs}
 use Rattle.capi.proofs.answer.signed.Statement.{statement}
 use Rattle.capi.proofs.answer.signed.Tie as tie

@@ -1,5 +1,5 @@
 -- `capi::answer::unsigned` meets its contract: each case is copied. Assumes nothing.
-use Rattle.capi.specs.Answer.{copied-unsigned, copied-refusal-unsigned}
+use Rattle.capi.specs.Copies.{copied-unsigned, copied-refusal-unsigned}
 use borrow.Author.Needs.{needs}
 use Rattle.capi.proofs.answer.unsigned.Statement.{statement}
 use Rattle.capi.proofs.answer.unsigned.Tie as tie

@@ -1,5 +1,5 @@
 -- `capi::c_fitting::copied` meets its contract: each case is copied. Assumes nothing.
-use Rattle.capi.specs.File.{copied-done, copied-refusal, copied-line}
+use Rattle.capi.specs.Copies.{copied-done, copied-refusal, copied-line}
 use borrow.Author.Needs.{needs}
 use Rattle.capi.proofs.c_fitting.copied.Statement.{statement}
 use Rattle.capi.proofs.c_fitting.copied.Tie as tie
