@@ -4,7 +4,7 @@ use mathlib.Core.Path.{_≡_, ap}
 use mathlib.Core.List.{List}
 use Prim.Native.Nat.{ℕ}
 use lib.IntN.{ℤ}
-use Rattle.decimal.specs.Promise.{WriteSigned, WriteUnsigned, signed-unique, unsigned-unique}
+use Rattle.decimal.specs.Promise.{WriteSigned, WriteUnsigned, write-signed-unique, write-unsigned-unique}
 use Rattle.byte_order.specs.Promise.{Stored, stored-unique}
 use Rattle.filter.specs.Meaning.{history, stateOf}
 use Rattle.filter.specs.Promise.{Runs, run-unique}
@@ -19,13 +19,13 @@ module _ (width frac : ℕ) (out : List ℕ) {out' out'' : List ℕ} {r s : CUns
       → Unsigned (λ a. WriteSigned raw width frac out a out') r
       → Unsigned (λ a. WriteSigned raw width frac out a out'') s
       → (r ≡ s) × (out' ≡ out'')
-  tq-write-signed-unique raw = lent-unique (signed-unique raw width frac out)
+  tq-write-signed-unique raw = lent-unique (write-signed-unique raw width frac out)
 
   pub tq-write-unsigned-unique : (raw : ℕ)
       → Unsigned (λ a. WriteUnsigned raw width frac out a out') r
       → Unsigned (λ a. WriteUnsigned raw width frac out a out'') s
       → (r ≡ s) × (out' ≡ out'')
-  tq-write-unsigned-unique raw = lent-unique (unsigned-unique raw width frac out)
+  tq-write-unsigned-unique raw = lent-unique (write-unsigned-unique raw width frac out)
 
   -- tq_to_be_bytes_S, tq_to_le_bytes_S: the bytes of a raw, in either order
   pub tq-to-bytes-unique : (bytes : List ℕ)

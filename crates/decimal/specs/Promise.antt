@@ -12,14 +12,14 @@ use Rattle.decimal.specs.Meaning.{writeOf, leftOf}
 abbrev pub WriteSigned : ℤ → ℕ → ℕ → List ℕ → UnsignedAnswer → List ℕ → Type 0
 WriteSigned raw w f out r left = (r ≡ unsignedAnswer (writeOf raw w f out)) × (left ≡ leftOf raw w f out)
 
-pub signed-unique : (raw : ℤ) (w f : ℕ) (out : List ℕ) (r s : UnsignedAnswer) (left rest : List ℕ)
+pub write-signed-unique : (raw : ℤ) (w f : ℕ) (out : List ℕ) (r s : UnsignedAnswer) (left rest : List ℕ)
     → WriteSigned raw w f out r left → WriteSigned raw w f out s rest → (r ≡ s) × (left ≡ rest)
-signed-unique raw w f out r s left rest p q = (p .0 ∙ sym (q .0), p .1 ∙ sym (q .1))
+write-signed-unique raw w f out r s left rest p q = (p .0 ∙ sym (q .0), p .1 ∙ sym (q .1))
 
 -- `unsigned::write`: the same of a raw that is not negative
 abbrev pub WriteUnsigned : ℕ → ℕ → ℕ → List ℕ → UnsignedAnswer → List ℕ → Type 0
 WriteUnsigned raw w f out r left = WriteSigned (pos raw) w f out r left
 
-pub unsigned-unique : (raw w f : ℕ) (out : List ℕ) (r s : UnsignedAnswer) (left rest : List ℕ)
+pub write-unsigned-unique : (raw w f : ℕ) (out : List ℕ) (r s : UnsignedAnswer) (left rest : List ℕ)
     → WriteUnsigned raw w f out r left → WriteUnsigned raw w f out s rest → (r ≡ s) × (left ≡ rest)
-unsigned-unique raw w f out r s left rest p q = signed-unique (pos raw) w f out r s left rest p q
+write-unsigned-unique raw w f out r s left rest p q = write-signed-unique (pos raw) w f out r s left rest p q
