@@ -1,6 +1,6 @@
--- Document 01, module 4, one line an operation, for both signs: the format's refusals, then the exact result in the manner.
--- a and b are raws, so a step is 2^-F. An operand is the number that it is, also where the format could not hold it.
--- Assumes nothing.
+-- Document 01, module 4, one line an operation, for both signs: the format's refusals, then the exact
+-- result in the manner. a and b are raws, so a step is 2^-F. An operand is the number that it is, also
+-- where the format could not hold it. Assumes nothing.
 use mathlib.Core.Bool.{cond}
 use Prim.Native.Nat.{ℕ, _^_}
 use lib.Dec.{eqb}
@@ -21,7 +21,8 @@ subOf k s w f a b = unless (faultOf w f) (settle k s w (a -ℤ b))
 abbrev pub negOf : Manner → Sign → ℕ → ℕ → ℤ → Outcome
 negOf k s w f a = unless (faultOf w f) (settle k s w (negℤ a))
 
--- "Product and quotient are exact before rounding; we expect the product rounded toward minus infinity and the quotient toward zero."
+-- "Product and quotient are exact before rounding; we expect the product rounded toward
+-- minus infinity and the quotient toward zero."
 abbrev pub mulOf : Manner → Sign → ℕ → ℕ → ℤ → ℤ → Outcome
 mulOf k s w f a b = unless (faultOf w f) (settle k s w (floor (a *ℤ b) (2 ^ f)))
 

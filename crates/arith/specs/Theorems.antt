@@ -94,7 +94,18 @@ turned : (m b : ℕ) → negℤ (pos m) *ℤ negsuc b ≡ pos (m * suc b)
 turned m b = eq-in (negℤ (pos m) *ℤ negsuc b) (pos (m * suc b)) (simp (up-mul, dn-mul, up-neg, dn-neg) (omega arith))
 
 minus : (m n : ℕ) → negℤ (pos m) +ℤ negℤ (pos n) ≡ negℤ (pos (m + n))
-minus m n = omega (kit, add-out (negℤ (pos m)) (negℤ (pos n)), up-neg (pos m), dn-neg (pos m), up-neg (pos n), dn-neg (pos n), up-neg (pos (m + n)), dn-neg (pos (m + n)))
+minus m n =
+    omega (
+      kit,
+      add-out (negℤ (pos m)) (negℤ (pos n)),
+      up-neg (pos m),
+      dn-neg (pos m),
+      up-neg (pos n),
+      dn-neg (pos n),
+      up-neg (pos (m + n)),
+      dn-neg
+          (pos (m + n)),
+    )
 
 scaled : (m b : ℕ) → negℤ (pos m) *ℤ pos b ≡ negℤ (pos (m * b))
 scaled m b = eq-in (negℤ (pos m) *ℤ pos b) (negℤ (pos (m * b))) (simp (up-mul, dn-mul, up-neg, dn-neg) (omega arith))
@@ -103,9 +114,11 @@ together : (a b : ℤ) → quotZ a b *ℤ b +ℤ remZ a b ≡ a
 together (pos a) (pos b) = ap pos (div-add-mod' a b)
 together (pos a) (negsuc b) = ap (λ (z : ℤ). z +ℤ pos (a % suc b)) (turned (a / suc b) b) ∙ ap pos (div-add-mod' a (suc b))
 together (negsuc a) (pos b) =
-    ap (λ (z : ℤ). z +ℤ negℤ (pos (suc a % b))) (scaled (suc a / b) b) ∙ minus (suc a / b * b) (suc a % b) ∙ ap (λ (n : ℕ). negℤ (pos n)) (div-add-mod' (suc a) b)
+    ap (λ (z : ℤ). z +ℤ negℤ (pos (suc a % b))) (scaled (suc a / b) b) ∙ minus (suc a / b * b) (suc a % b)
+    ∙ ap (λ (n : ℕ). negℤ (pos n)) (div-add-mod' (suc a) b)
 together (negsuc a) (negsuc b) =
-    ap (λ (z : ℤ). z +ℤ negℤ (pos (suc a % suc b))) (eq-in (pos (suc a / suc b) *ℤ negsuc b) (negℤ (pos (suc a / suc b * suc b))) (simp (up-mul, dn-mul, up-neg, dn-neg) (omega arith)))
+    ap (λ (z : ℤ). z +ℤ negℤ (pos (suc a % suc b)))
+    (eq-in (pos (suc a / suc b) *ℤ negsuc b) (negℤ (pos (suc a / suc b * suc b))) (simp (up-mul, dn-mul, up-neg, dn-neg) (omega arith)))
     ∙ minus (suc a / suc b * suc b) (suc a % suc b)
     ∙ ap (λ (n : ℕ). negℤ (pos n)) (div-add-mod' (suc a) (suc b))
 
@@ -143,7 +156,20 @@ sum-congruent m {a} {b} {x} {y} c d =
     let l = d .turns *ℤ pos m in
     record {
       turns = c .turns +ℤ d .turns;
-      differ = omega (kit, c .differ, d .differ, *ℤ-distribʳ (c .turns) (d .turns) (pos m), add-out a b, add-out x y, add-out x k, add-out y l, add-out k l, add-out (x +ℤ y) ((c .turns +ℤ d .turns) *ℤ pos m));
+      differ =
+          omega (
+            kit,
+            c .differ,
+            d .differ,
+            *ℤ-distribʳ (c .turns) (d .turns) (pos m),
+            add-out a b,
+            add-out x y,
+            add-out x k,
+            add-out y l,
+            add-out k l,
+            add-out
+                (x +ℤ y) ((c .turns +ℤ d .turns) *ℤ pos m),
+          );
     }
 
 -- a factor at a time: (x + k m) b = x b + (k b) m
@@ -163,13 +189,27 @@ congruent-trans m {a} {b} {c} p q =
     let l = q .turns *ℤ pos m in
     record {
       turns = q .turns +ℤ p .turns;
-      differ = omega (kit, p .differ, q .differ, *ℤ-distribʳ (q .turns) (p .turns) (pos m), add-out b k, add-out c l, add-out l k, add-out c ((q .turns +ℤ p .turns) *ℤ pos m));
+      differ =
+          omega (
+            kit,
+            p .differ,
+            q .differ,
+            *ℤ-distribʳ (q .turns) (p .turns) (pos m),
+            add-out b k,
+            add-out c l,
+            add-out l k,
+            add-out c
+                ((q .turns +ℤ p .turns) *ℤ pos m),
+          );
     }
 
 pub product-congruent : (m : ℕ) {a b x y : ℤ} → Congruent m a x → Congruent m b y → Congruent m (a *ℤ b) (x *ℤ y)
 product-congruent m {a} {b} {x} {y} c d =
     let e = factor-congruent m x d in
-    let turned : Congruent m (x *ℤ b) (x *ℤ y) = record { turns = e .turns; differ = *ℤ-comm x b ∙ e .differ ∙ ap (λ (z : ℤ). z +ℤ e .turns *ℤ pos m) (*ℤ-comm y x) } in
+    let turned : Congruent m (x *ℤ b) (x *ℤ y) = record {
+      turns = e .turns;
+      differ = *ℤ-comm x b ∙ e .differ ∙ ap (λ (z : ℤ). z +ℤ e .turns *ℤ pos m) (*ℤ-comm y x);
+    } in
     congruent-trans m (factor-congruent m b c) turned
 
 -- the wrapping sum, and the wrapping product at F = 0, are those of the integers modulo 2^W: wrapping the operands first changes nothing

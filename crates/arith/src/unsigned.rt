@@ -1,5 +1,6 @@
 // Arithmetic in an unsigned format.
-ghost use Rattle.arith.specs.Promise.{UnsignedAdd, UnsignedSub, UnsignedNeg, UnsignedMul, UnsignedDiv, UnsignedRem};
+ghost use Rattle.arith.specs.Promise.{UnsignedAdd, UnsignedSub, UnsignedNeg};
+ghost use Rattle.arith.specs.Promise.{UnsignedMul, UnsignedDiv, UnsignedRem};
 use crate::refusal;
 use format::Manner;
 use format::UnsignedAnswer;

@@ -1,5 +1,5 @@
-// The worked examples of src/wrapping.rs's documentation that are in scope, as runs. The file `stdout` beside src/ is written from
-// that documentation, not by this program. I16F16 is W 32, F 16: one is 65536 steps.
+// The worked examples of src/wrapping.rs's documentation that are in scope, as runs. The file `stdout` beside src/ is
+// written from that documentation, not by this program. I16F16 is W 32, F 16: one is 65536 steps.
 
 use format::Manner;
 

@@ -37,7 +37,8 @@ pub record Legal (t : List ℕ) (n after radix base exp frac : ℕ) : Type 0 whe
 
 -- ---- no digit is cut, or one is
 module _ (t : List ℕ) (n width up down : ℕ) (digits : Digits t n width) where
-  pub whole-done : {x r : Folded} {at : ℕ} → down ≤ up → Taken t 0 n (2 ^ width) x at → r ≡ foldOf (foldedValue x * 2 ^ (up - down)) → r ≡ foldOf (nearestEven (bitsNumber t width * 2 ^ up) (2 ^ down))
+  pub whole-done : {x r : Folded} {at : ℕ} → down ≤ up → Taken t 0 n (2 ^ width) x at → r ≡ foldOf (foldedValue x * 2 ^ (up - down))
+      → r ≡ foldOf (nearestEven (bitsNumber t width * 2 ^ up) (2 ^ down))
   whole-done {x} {r} {at} h all e =
       let number = bitsNumber t width in
       let every : take n (bodyOf t) ≡ bodyOf t = take-all n (bodyOf t) (omega (arith, digits .count)) in
@@ -47,7 +48,8 @@ module _ (t : List ℕ) (n width up down : ℕ) (digits : Digits t n width) wher
       ∙ fold-times number (2 ^ (up - down)) (pow-pos (up - down))
       ∙ ap foldOf (sym (ap (λ (k : ℕ). nearestEven k (2 ^ down)) exact ∙ nearest-exact (number * 2 ^ (up - down)) (2 ^ down) (pow-pos down)))
 
-  pub part-done : {r : Folded} → up < down → r ≡ foldOf (nearestEven (bitsNumber t width) (2 ^ (down - up))) → r ≡ foldOf (nearestEven (bitsNumber t width * 2 ^ up) (2 ^ down))
+  pub part-done : {r : Folded} → up < down → r ≡ foldOf (nearestEven (bitsNumber t width) (2 ^ (down - up)))
+      → r ≡ foldOf (nearestEven (bitsNumber t width * 2 ^ up) (2 ^ down))
   part-done h e =
       let scaled = nearest-scale (bitsNumber t width) (2 ^ (down - up)) (2 ^ up) (pow-pos (down - up)) (pow-pos up) in
       e ∙ ap foldOf (sym (ap (nearestEven (bitsNumber t width * 2 ^ up)) (power-sub up down (omega arith)) ∙ scaled))

@@ -47,7 +47,8 @@ module _ (q t r c p half : ℕ) (two : c ≡ half * 2) (below : t < c) (rest : r
       whole : p * c ≡ half * p * 2
       whole = ap (λ (k : ℕ). p * k) two ∙ omega arith
 
-      go : (a b z : Bool) → ltb t half ≡ a → ltb half t ≡ b → any ≡ z → cond a Less (cond b More (cond z More Same)) ≡ orderOf (((q * c + t) * p + r) * 2) ((q * 2 + 1) * (p * c))
+      go : (a b z : Bool) → ltb t half ≡ a → ltb half t ≡ b → any ≡ z
+          → cond a Less (cond b More (cond z More Same)) ≡ orderOf (((q * c + t) * p + r) * 2) ((q * 2 + 1) * (p * c))
       go true b z e f g =
           let less : suc t * p ≤ half * p = mul-le-mul-right p (ltb-true t half e) in
           sym (order-less (((q * c + t) * p + r) * 2) ((q * 2 + 1) * (p * c)) (omega (arith, whole)))
@@ -107,7 +108,8 @@ module _ (t : List ℕ) (n width count c : ℕ) (digits : Digits t n width) (ins
       (natOf-below (2 ^ width) (drop (suc count) (bodyOf t)) (drop-digits (suc count) (digits .below)))
 
   cut-is : {any : Bool} → any ≡ anyOf (drop (suc count) (bodyOf t))
-      → nearestEven (bitsNumber t width) (2 ^ (width * (n - count - 1) + c)) ≡ roundBy (cutOf (digitAt t count % 2 ^ c) (2 ^ (c - 1)) any) (cutWhole t width count c)
+      → nearestEven (bitsNumber t width) (2 ^ (width * (n - count - 1) + c))
+      ≡ roundBy (cutOf (digitAt t count % 2 ^ c) (2 ^ (c - 1)) any) (cutWhole t width count c)
   cut-is {any} e =
       ap₂ nearestEven number-is (pow-add 2 (width * (n - count - 1)) c)
       ∙ cut-nearest (cutWhole t width count c) (digitAt t count % 2 ^ c) (behind t width count) (2 ^ c) (2 ^ (width * (n - count - 1))) (2 ^ (c - 1))
@@ -122,7 +124,8 @@ module _ (t : List ℕ) (n width count c : ℕ) (digits : Digits t n width) (ins
       → r ≡ foldOf (nearestEven (bitsNumber t width) (2 ^ (width * (n - count - 1) + c)))
   unfolding cutWhole
   cut-done {x} {y} {r} {at} {d} {next} {any} {how} head digit rest whole by end =
-      let is-digit : d ≡ digitAt t count = digit .first ∙ ap (λ (l : List ℕ). getD l 0 0) (head .rest) ∙ getD-drop count (bodyOf t) 0 0 ∙ ap (λ (j : ℕ). getD (bodyOf t) j 0) (omega arith) in
+      let is-digit : d ≡ digitAt t count = digit .first ∙ ap (λ (l : List ℕ). getD l 0 0) (head .rest) ∙ getD-drop count (bodyOf t) 0 0
+      ∙ ap (λ (j : ℕ). getD (bodyOf t) j 0) (omega arith) in
       let is-rest : any ≡ anyOf (drop (suc count) (bodyOf t)) =
       rest ∙ ap anyOf (digit .rest ∙ ap (drop 1) (head .rest) ∙ drop-drop 1 count (bodyOf t) ∙ ap (λ (j : ℕ). drop j (bodyOf t)) (add-one count)) in
       let is-whole : y ≡ foldOf (cutWhole t width count c) =
@@ -160,5 +163,6 @@ pub cut-found : (t : List ℕ) (n s width : ℕ) {r : Folded} → 0 < s → (s -
     → r ≡ foldOf (nearestEven (bitsNumber t width) (2 ^ s))
 cut-found t n s width h k e = e ∙ ap (λ (j : ℕ). foldOf (nearestEven (bitsNumber t width) (2 ^ j))) (cut-at n s width h k)
 
-pub cut-none : (t : List ℕ) (n s width : ℕ) {r : Folded} → Digits t n width → 0 < s → n ≤ (s - 1) / width → r ≡ foldOf 0 → r ≡ foldOf (nearestEven (bitsNumber t width) (2 ^ s))
+pub cut-none : (t : List ℕ) (n s width : ℕ) {r : Folded} → Digits t n width → 0 < s → n ≤ (s - 1) / width → r ≡ foldOf 0
+    → r ≡ foldOf (nearestEven (bitsNumber t width) (2 ^ s))
 cut-none t n s width digits h k e = e ∙ ap foldOf (sym (cut-away t n width s digits h k))

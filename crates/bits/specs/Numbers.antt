@@ -19,7 +19,8 @@ pub nat-around : (radix : ℕ) (ds : List ℕ) (k : ℕ) → k < length ds
 unfolding natFrom
 nat-around radix ds k h =
     let n = natOf radix (take k ds) in
-    let behind : natFrom radix (drop k ds) n ≡ natFrom radix (drop (suc k) ds) (n * radix + getD ds k 0) = ap (λ (l : List ℕ). natFrom radix l n) (drop-cons ds k 0 h) in
+    let behind : natFrom radix (drop k ds) n
+    ≡ natFrom radix (drop (suc k) ds) (n * radix + getD ds k 0) = ap (λ (l : List ℕ). natFrom radix l n) (drop-cons ds k 0 h) in
     let left : length (drop (suc k) ds) ≡ length ds - k - 1 = length-drop (suc k) ds ∙ omega arith in
     ap (natOf radix) (sym (take-append-drop k ds))
     ∙ natFrom-append radix (take k ds) (drop k ds) 0

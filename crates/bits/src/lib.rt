@@ -1,5 +1,5 @@
-// Reading in radix 2, 8 and 16, where a digit is a whole number of bits: the digits are cut at the bit that the format and the exponent
-// ask for, and no exponent is ever expanded. An inner function of the readers.
+// Reading in radix 2, 8 and 16, where a digit is a whole number of bits: the digits are cut at the bit that the format
+// and the exponent ask for, and no exponent is ever expanded. An inner function of the readers.
 ghost use mathlib.Core.Path.{_≡_};
 ghost use Prim.Native.Nat.{_+_, _-_, _*_, _%_, _^_, _<_, _≤_};
 ghost use Rattle.laws.specs.Nearest.{nearestEven};
@@ -88,7 +88,8 @@ fn part(body: &[u8], n: usize, width: u64, s: u64) -> Folded
 // The cut in the digit number `count`, with c of its bits behind it.
 fn cut(body: &[u8], n: usize, width: u64, count: usize, c: u64) -> Folded
     requires { ⌜ Digits (now body) n width × (count < n) × (1 ≤ c) × (c ≤ width) ⌝ }
-    ensures { λ r. ⌜ r ≡ foldOf (nearestEven (bitsNumber (now (body .entry)) width) (2 ^ (width * (n - count - 1) + c))) ⌝ }
+    ensures { λ r. ⌜ r ≡ foldOf (nearestEven (bitsNumber (now (body .entry)) width)
+        (2 ^ (width * (n - count - 1) + c))) ⌝ }
 {
     let head = body::fold_digits(body, 0, count, power(width));
     let next = body::next_digit(body, head.at);

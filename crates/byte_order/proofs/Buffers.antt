@@ -109,10 +109,12 @@ module _ (w f : ℕ) (out : List ℕ) {fault : ℕ} (e : fault ≡ orElse (fault
         buffer = rw (ne-eqb _ 0 (λ z. h (e ∙ z)));
       }
 
-  pub stored-little : (a : ℤ) {after : List ℕ} {s v : ℕ} → fault ≡ 0 → s ≡ w / 8 → v ≡ lowBits w a → after ≡ leBytes s v ++ drop s out → Stored (littleOf w a) w f out after (DoneU s false)
+  pub stored-little : (a : ℤ) {after : List ℕ} {s v : ℕ} → fault ≡ 0 → s ≡ w / 8 → v ≡ lowBits w a → after ≡ leBytes s v ++ drop s out
+      → Stored (littleOf w a) w f out after (DoneU s false)
   stored-little a {s = s} z q l p = stored-done z q (p ∙ ap (λ (k : List ℕ). k ++ drop s out) (ap₂ leBytes q l))
 
-  pub stored-big : (a : ℤ) {after : List ℕ} {s v u : ℕ} → fault ≡ 0 → s ≡ w / 8 → v ≡ lowBits w a → u ≡ fromBe 0 (leBytes s v) → after ≡ leBytes s u ++ drop s out
+  pub stored-big : (a : ℤ) {after : List ℕ} {s v u : ℕ} → fault ≡ 0 → s ≡ w / 8 → v ≡ lowBits w a → u ≡ fromBe 0 (leBytes s v)
+      → after ≡ leBytes s u ++ drop s out
       → Stored (bigOf w a) w f out after (DoneU s false)
   stored-big a {s = s} z q l t p =
       let turned = ap₂ leBytes q (swapped-of w {z = a} refl q l t) ∙ swapped-reversed (w / 8) (lowBits w a) in

@@ -1,4 +1,5 @@
--- Document 01, module 4, byte order, for both signs: the refusals, then the bytes. a is a raw, also one that the format could not hold. Assumes nothing.
+-- Document 01, module 4, byte order, for both signs: the refusals, then the bytes. a is a raw, also one
+-- that the format could not hold. Assumes nothing.
 use mathlib.Core.List.{List, [], _∷_, _++_, reverse}
 use mathlib.Core.Bool.{false, cond}
 use Prim.Native.Nat.{ℕ, zero, suc, _+_, _*_, _/_, _%_}
@@ -9,7 +10,8 @@ use Rattle.laws.specs.Diff.{up}
 use Rattle.format.specs.Meaning.{Sign, unsigned, Outcome, done, faultOf, unless, wrap}
 use Rattle.exact.specs.Meaning.{orElse}
 
--- "byte order": n bytes of x, the lowest first; and the number of such bytes, and of bytes whose first is the highest, behind the number `high`
+-- "byte order": n bytes of x, the lowest first; and the number of such bytes, and of bytes whose
+-- first is the highest, behind the number `high`
 unfoldable pub leBytes : ℕ → ℕ → List ℕ
 leBytes zero x = []
 leBytes (suc n) x = x % 256 ∷ leBytes n (x / 256)
@@ -52,4 +54,5 @@ abbrev pub storedOf : ℕ → ℕ → ℕ → Outcome
 storedOf w f n = unless (orElse (faultOf w f) (bufferFault w n)) (done (pos (w / 8)) false)
 
 unfoldable pub bufferOf : ℕ → ℕ → List ℕ → List ℕ → List ℕ
-bufferOf w f bytes out = cond (eqb (orElse (faultOf w f) (bufferFault w (length out))) 0) (bytes ++ drop (w / 8) out) out
+bufferOf w f bytes out =
+    cond (eqb (orElse (faultOf w f) (bufferFault w (length out))) 0) (bytes ++ drop (w / 8) out) out

@@ -1,5 +1,5 @@
--- What an export promises, over the promise P of the function that it calls: its struct and its lent buffers are settled
--- where P settles answer and buffers. Assumes nothing.
+-- What an export promises, over the promise P of the function that it calls: its struct and its lent buffers are
+-- settled where P settles answer and buffers. Assumes nothing.
 use mathlib.Core.Path.{_≡_, sym, ap, _∙_}
 use Rattle.format.specs.declared.SignedAnswer.{SignedAnswer}
 use Rattle.format.specs.declared.UnsignedAnswer.{UnsignedAnswer}

@@ -1,5 +1,6 @@
--- Document 01, module 5: "Format to format: extra fraction bits dropped, rounding toward minus infinity (D)." One definition for
--- the four pairs of signs. A raw is the number that it is, also where the format that it comes from could not hold it. Assumes nothing.
+-- Document 01, module 5: "Format to format: extra fraction bits dropped, rounding toward minus infinity (D)."
+-- One definition for the four pairs of signs. A raw is the number that it is, also where the format that it
+-- comes from could not hold it. Assumes nothing.
 use mathlib.Core.Bool.{cond, _&&_}
 use Prim.Native.Nat.{ℕ, _^_}
 use lib.Dec.{leb}
@@ -8,8 +9,8 @@ use Rattle.laws.specs.Floor.{floor}
 use Rattle.format.specs.declared.Manner.{Manner}
 use Rattle.format.specs.Meaning.{Sign, Outcome, isWidth, unless, settle}
 
--- "1: W is not one of the four", of either format, before "2: F above W", of either; 0 for none. The first two numbers are the format
--- that the raw comes from
+-- "1: W is not one of the four", of either format, before "2: F above W", of either; 0 for none. The first two
+-- numbers are the format that the raw comes from
 unfoldable pub formatsFault : ℕ → ℕ → ℕ → ℕ → ℕ
 formatsFault fw ff w f = cond (isWidth fw && isWidth w) (cond (leb ff fw && leb f w) 0 2) 1
 

@@ -23,14 +23,18 @@ abbrev pub UnsignedToUnsigned : ℕ → ℕ → ℕ → ℕ → ℕ → Manner �
 UnsignedToUnsigned a fw ff w f k r = r ≡ unsignedAnswer (convertOf k unsigned fw ff w f (pos a))
 
 module _ (fw ff w f : ℕ) (k : Manner) where
-  pub signed-to-signed-unique : (a : ℤ) (r s : SignedAnswer) → SignedToSigned a fw ff w f k r → SignedToSigned a fw ff w f k s → r ≡ s
+  pub signed-to-signed-unique : (a : ℤ) (r s : SignedAnswer) → SignedToSigned a fw ff w f k r
+      → SignedToSigned a fw ff w f k s → r ≡ s
   signed-to-signed-unique a r s p q = unique p q
 
-  pub signed-to-unsigned-unique : (a : ℤ) (r s : UnsignedAnswer) → SignedToUnsigned a fw ff w f k r → SignedToUnsigned a fw ff w f k s → r ≡ s
+  pub signed-to-unsigned-unique : (a : ℤ) (r s : UnsignedAnswer) → SignedToUnsigned a fw ff w f k r
+      → SignedToUnsigned a fw ff w f k s → r ≡ s
   signed-to-unsigned-unique a r s p q = unique p q
 
-  pub unsigned-to-signed-unique : (a : ℕ) (r s : SignedAnswer) → UnsignedToSigned a fw ff w f k r → UnsignedToSigned a fw ff w f k s → r ≡ s
+  pub unsigned-to-signed-unique : (a : ℕ) (r s : SignedAnswer) → UnsignedToSigned a fw ff w f k r
+      → UnsignedToSigned a fw ff w f k s → r ≡ s
   unsigned-to-signed-unique a r s p q = unique p q
 
-  pub unsigned-to-unsigned-unique : (a : ℕ) (r s : UnsignedAnswer) → UnsignedToUnsigned a fw ff w f k r → UnsignedToUnsigned a fw ff w f k s → r ≡ s
+  pub unsigned-to-unsigned-unique : (a : ℕ) (r s : UnsignedAnswer) → UnsignedToUnsigned a fw ff w f k r
+      → UnsignedToUnsigned a fw ff w f k s → r ≡ s
   unsigned-to-unsigned-unique a r s p q = unique p q

@@ -1,4 +1,5 @@
-// A raw in the steps of another format: a shift to the left is a sign and two words, a shift to the right stays in the word.
+// A raw in the steps of another format: a shift to the left is a sign and two
+// words, a shift to the right stays in the word.
 ghost use mathlib.Core.Path.{_≡_};
 ghost use Prim.Native.Nat.{_^_, _/_, _≤_};
 ghost use lib.IntN.{pos};

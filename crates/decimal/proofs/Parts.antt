@@ -56,7 +56,8 @@ scaled-text n f {x} h e = go (eqb n 0) refl
         rw (ne-eqb x 0 (omega arith), digits)
 
 module _ (f n : ℕ) (text : List ℕ) (l : length text ≡ places) where
-  pub word-none : n ≡ 0 → (_≡_ {A = ℕ} point (point + length (wordText f n))) × (point ≤ places) × (take point text ≡ take point text ++ wordText f n) × (length text ≡ places)
+  pub word-none : n ≡ 0 → (_≡_ {A = ℕ} point (point + length (wordText f n))) × (point ≤ places) × (take point text ≡ take point text ++ wordText f n)
+      × (length text ≡ places)
   unfolding wordText
   word-none e = rw e (refl, omega arith, sym (append-nil (take point text)), l)
 
@@ -77,7 +78,9 @@ module _ (f n : ℕ) (text : List ℕ) (l : length text ≡ places) where
       ds = map byteOf (fractionBy (2 ^ 64) f n)
 
       whole : take end left ≡ take point text ++ (46 ∷ map byteOf (fractionBy (2 ^ 64) f n))
-      whole = e ∙ ap (λ (s : List ℕ). s ++ map byteOf (fractionBy (2 ^ 64) f n)) (take-suc-set text point 46 (omega arith)) ∙ append-assoc (take point text) (46 ∷ []) (map byteOf (fractionBy (2 ^ 64) f n))
+      whole =
+          e ∙ ap (λ (s : List ℕ). s ++ map byteOf (fractionBy (2 ^ 64) f n)) (take-suc-set text point 46 (omega arith))
+          ∙ append-assoc (take point text) (46 ∷ []) (map byteOf (fractionBy (2 ^ 64) f n))
 
       long : length (take end left) ≡ length (take point text ++ (46 ∷ map byteOf (fractionBy (2 ^ 64) f n)))
       long = ap length whole
@@ -122,8 +125,10 @@ module _ (t out : List ℕ) where
   unfolding put bufferAfter unsignedAnswer
   put-short h = rw (lt-leb (length t) (length out) h) (refl, refl)
 
-  pub put-copied : {text left : List ℕ} {start end n : ℕ} → Filled t text start end → end - start ≤ length out → n ≡ length (take (end - start) (drop start text))
-      → left ≡ take (length (take (end - start) (drop start text))) (take (end - start) (drop start text)) ++ drop (length (take (end - start) (drop start text))) out
+  pub put-copied : {text left : List ℕ} {start end n : ℕ} → Filled t text start end → end - start ≤ length out
+      → n ≡ length (take (end - start) (drop start text))
+      → left ≡ take (length (take (end - start) (drop start text))) (take (end - start) (drop start text))
+      ++ drop (length (take (end - start) (drop start text))) out
       → (Done n false ≡ putAnswer t out) × (left ≡ putOver t out)
   unfolding put bufferAfter unsignedAnswer
   put-copied {text} {start = start} {end = end} f h e q =

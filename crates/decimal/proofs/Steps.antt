@@ -155,7 +155,8 @@ module _ (m rest high low : ℕ) (p : 0 < m) (h : low < m) (e : high * m + low �
       go (suc j) t g true z =
           let none = eqb-true left 0 z in
           let s = all-spare none in
-          let one-left : fractionBy m (suc j) rest ≡ one ∷ [] = fraction-more m j rest n ∙ ap (λ (v : ℕ). one ∷ fractionBy m j v) none ∙ ap (λ (ds : List ℕ). one ∷ ds) (fraction-none m j) in
+          let one-left : fractionBy m (suc j) rest ≡ one ∷ [] = fraction-more m j rest n ∙ ap (λ (v : ℕ). one ∷ fractionBy m j v) none
+          ∙ ap (λ (ds : List ℕ). one ∷ ds) (fraction-none m j) in
           let whole : take end text ++ (byteOf one ∷ []) ≡ goal = ap (λ (ds : List ℕ). take end text ++ map byteOf ds) (sym one-left) ∙ g in
           let gone : fractionBy m (suc j - 2) low ≡ [] = ap (fractionBy m (suc j - 2)) (s .0) ∙ fraction-none m (suc j - 2) in
           ap₂ (λ (x : ℕ) (ds : List ℕ). take end text ++ (byteOf one ∷ byteOf x ∷ map byteOf ds)) (s .1) gone
@@ -180,6 +181,7 @@ pub fraction-stop : (m j rest end zeros : ℕ) (text : List ℕ) {goal : List �
 fraction-stop m j rest end zeros text {goal} z l g =
     let all : take end text ≡ goal ++ replicate zeros 48 =
     sym (append-nil (take end text)) ∙ ap (λ (ds : List ℕ). take end text ++ map byteOf ds) (sym (ap (fractionBy m j) z ∙ fraction-none m j)) ∙ g in
-    let size : end ≡ length goal + zeros = sym (length-take-le end text l) ∙ ap length all ∙ length-append goal (replicate zeros 48) ∙ ap (λ (n : ℕ). length goal + n) (length-replicate zeros 48) in
+    let size : end ≡ length goal + zeros = sym (length-take-le end text l) ∙ ap length all ∙ length-append goal (replicate zeros 48)
+    ∙ ap (λ (n : ℕ). length goal + n) (length-replicate zeros 48) in
     let cut : end - zeros ≡ length goal = omega (arith, size) in
     sym (take-take (end - zeros) end text (omega arith)) ∙ ap₂ take cut all ∙ take-append-seam goal (replicate zeros 48)

@@ -16,7 +16,8 @@ use Rattle.laws.specs.Tests.{lt-ltZ, le-ltZ}
 use Rattle.laws.specs.Text.{bytes}
 use Rattle.format.specs.Meaning.{Outcome, done, refused, isWidth, faultOf, guarded}
 use Rattle.grammar.specs.Run.{both}
-use Rattle.decimal.specs.Meaning.{byteOf, wholeBy, wholeDigits, fractionBy, fractionDigits, signText as signOf, wholeText, fractionText, textOf, rawText, put, bufferAfter, writeOf, leftOf}
+use Rattle.decimal.specs.Meaning.{byteOf, wholeBy, wholeDigits, fractionBy, fractionDigits, signText as signOf}
+use Rattle.decimal.specs.Meaning.{wholeText, fractionText, textOf, rawText, put, bufferAfter, writeOf, leftOf}
 use Rattle.decimal.specs.Digits.{whole-by}
 
 abbrev pub minus : ℕ → ℤ
@@ -120,8 +121,10 @@ quick-text neg m f h = rw (whole-by 19 (m / 2 ^ f) (omega (arith, div-le-self m 
 
 quick-row : (r : Row) → short r ≡ true → got r ≡ quickly r
 unfolding got rawText
-quick-row (pos n over f is t) h = quick-text false n f (ltb-true n (10 ^ 20) h) ∙ ap (λ (b : Bool). quick b n f) (sym (le-ltZ {a = pos n} {b = pos 0} (omega orders)))
-quick-row (negsuc n over f is t) h = quick-text true (suc n) f (ltb-true (suc n) (10 ^ 20) h) ∙ ap (λ (b : Bool). quick b (suc n) f) (sym (lt-ltZ {a = negsuc n} {b = pos 0} (omega orders)))
+quick-row (pos n over f is t) h =
+    quick-text false n f (ltb-true n (10 ^ 20) h) ∙ ap (λ (b : Bool). quick b n f) (sym (le-ltZ {a = pos n} {b = pos 0} (omega orders)))
+quick-row (negsuc n over f is t) h =
+    quick-text true (suc n) f (ltb-true (suc n) (10 ^ 20) h) ∙ ap (λ (b : Bool). quick b (suc n) f) (sym (lt-ltZ {a = negsuc n} {b = pos 0} (omega orders)))
 
 abbrev all-short : List Row → Bool
 all-short [] = true
@@ -165,7 +168,8 @@ pub record Buffers : Type 0 where
   pub frac-left : leftOf (pos 1) 16 17 (stars 20) ≡ stars 20
 
 pub buffers : Buffers
-unfolding bytes isWidth faultOf guarded wholeBy wholeDigits fractionBy fractionDigits signOf wholeText fractionText textOf rawText put bufferAfter writeOf leftOf
+unfolding bytes isWidth faultOf guarded wholeBy wholeDigits fractionBy fractionDigits signOf wholeText fractionText textOf rawText put bufferAfter writeOf
+    leftOf
 buffers =
     record {
       exact = refl;

@@ -50,7 +50,9 @@ whole-ind P one more n = go n n (omega arith)
 
 -- there is a digit, and a number below 10^(k + 1) has at most k + 1
 pub whole-some : (n : ℕ) → 0 < length (wholeDigits n)
-whole-some = whole-ind (λ n. 0 < length (wholeDigits n)) (λ n h. rw (whole-last n h) (lit< tt)) (λ n h p. rw (whole-more n h) (omega (arith, length-append (wholeDigits (n / 10)) (n % 10 ∷ []))))
+whole-some =
+    whole-ind (λ n. 0 < length (wholeDigits n)) (λ n h. rw (whole-last n h) (lit< tt))
+    (λ n h p. rw (whole-more n h) (omega (arith, length-append (wholeDigits (n / 10)) (n % 10 ∷ []))))
 
 pub whole-length : (k n : ℕ) → n < 10 ^ suc k → length (wholeDigits n) ≤ suc k
 whole-length zero n h = rw (whole-last n (omega (arith, pow-suc 10 0, pow-zero 10))) (omega arith)

@@ -5,7 +5,8 @@ use mathlib.Core.Path.{_≡_, refl, sym, ap, ap₂, _∙_}
 use mathlib.Core.Bool.{Bool, true, false, cond}
 use mathlib.Core.List.{List, [], _∷_, _++_, map, append-assoc, append-nil}
 use Prim.Native.Nat.{ℕ, zero, suc, _+_, _*_, _/_, _%_, _^_, _≤_, _<_}
-use native.Mathlib.Nat.{pow-suc, pow-zero, div-add-mod', mod-lt, div-eq-of-lt-le, le-of-mul-le-mul-right, lt-of-mul-lt-mul-right, mul-lt-mul-of-pos-right, mul-le-mul-right, mul-pos, one-le-pow, pos-of-ne-zero}
+use native.Mathlib.Nat.{pow-suc, pow-zero, div-add-mod', mod-lt, div-eq-of-lt-le, le-of-mul-le-mul-right}
+use native.Mathlib.Nat.{lt-of-mul-lt-mul-right, mul-lt-mul-of-pos-right, mul-le-mul-right, mul-pos, one-le-pow, pos-of-ne-zero}
 use native.Mathlib.Omega.{arith}
 use lib.Dec.{eqb, lit<}
 use lib.Pow.{pow-pos}
@@ -85,7 +86,8 @@ digits-snoc none h = more h none
 digits-snoc (more l r) h = more l (digits-snoc r h)
 
 whole-digits-of : (n : ℕ) → Digits (wholeDigits n)
-whole-digits-of = whole-ind (λ n. Digits (wholeDigits n)) (λ n h. rw (whole-last n h) (more h none)) (λ n h p. rw (whole-more n h) (digits-snoc p (omega arith)))
+whole-digits-of =
+    whole-ind (λ n. Digits (wholeDigits n)) (λ n h. rw (whole-last n h) (more h none)) (λ n h p. rw (whole-more n h) (digits-snoc p (omega arith)))
 
 -- what starts with a digit that is not 0 goes on with anything
 data Starts : List ℕ → Type 0 where
@@ -99,7 +101,9 @@ starts-leads {ds = d ∷ []} (starts h) = lone
 starts-leads {ds = d ∷ e ∷ ds} (starts h) = first h
 
 whole-starts : (n : ℕ) → 0 < n → Starts (wholeDigits n)
-whole-starts = whole-ind (λ n. 0 < n → Starts (wholeDigits n)) (λ n h s. rw (whole-last n h) (starts s)) (λ n h p s. rw (whole-more n h) (starts-snoc (n % 10) (p (omega arith))))
+whole-starts =
+    whole-ind (λ n. 0 < n → Starts (wholeDigits n)) (λ n h s. rw (whole-last n h) (starts s))
+    (λ n h p s. rw (whole-more n h) (starts-snoc (n % 10) (p (omega arith))))
 
 whole-leads : (n : ℕ) → Leads (wholeDigits n)
 whole-leads zero = rw (whole-last 0 (lit< tt)) lone
@@ -215,7 +219,8 @@ fraction-pointed m n k h = go (eqb n 0) refl k h
 
 pub text-form : (neg : Bool) (m f : ℕ) → textOf neg m f ≡ formText neg (wholeDigits (m / 2 ^ f)) (fractionDigits f (m % 2 ^ f))
 unfolding textOf formText wholeText fractionText fractionDigits
-text-form neg m f = ap (λ (t : List ℕ). signText neg ++ (map byteOf (wholeDigits (m / 2 ^ f)) ++ t)) (fraction-pointed (2 ^ f) (m % 2 ^ f) f (mod-lt m (pow-pos f)))
+text-form neg m f =
+    ap (λ (t : List ℕ). signText neg ++ (map byteOf (wholeDigits (m / 2 ^ f)) ++ t)) (fraction-pointed (2 ^ f) (m % 2 ^ f) f (mod-lt m (pow-pos f)))
 
 pub digits-write : (m f : ℕ) → Writes (wholeDigits (m / 2 ^ f)) (fractionDigits f (m % 2 ^ f)) m f
 unfolding fractionDigits
@@ -224,7 +229,8 @@ digits-write m f =
     let n = m % 2 ^ f in
     let ds = fractionBy (2 ^ f) f n in
     let p = 10 ^ length ds in
-    let number : natOf 10 (wholeDigits q ++ ds) ≡ q * p + natOf 10 ds = natOf-append 10 (wholeDigits q) ds ∙ ap (λ (v : ℕ). v * p + natOf 10 ds) (whole-nat q) in
+    let number : natOf 10 (wholeDigits q ++ ds) ≡ q * p + natOf 10 ds = natOf-append 10 (wholeDigits q) ds
+    ∙ ap (λ (v : ℕ). v * p + natOf 10 ds) (whole-nat q) in
     let scaled : natOf 10 (wholeDigits q ++ ds) * 2 ^ f ≡ (q * p + natOf 10 ds) * 2 ^ f = ap (λ (v : ℕ). v * 2 ^ f) number in
     let rest : natOf 10 ds * 2 ^ f ≡ n * p = fraction-nat (2 ^ f) (pow-pos f) f n (mod-lt m (pow-pos f)) (ends-start f n) in
     let cut : (q * 2 ^ f + n) * p ≡ m * p = ap (λ (v : ℕ). v * p) (div-add-mod' m (2 ^ f)) in
@@ -255,7 +261,8 @@ unfolding fractionDigits
 only neg ws fs m f form w =
     let p = 10 ^ length fs in
     let number : natOf 10 (ws ++ fs) * 2 ^ f ≡ (natOf 10 ws * p + natOf 10 fs) * 2 ^ f = ap (λ (v : ℕ). v * 2 ^ f) (natOf-append 10 ws fs) in
-    let q = quotient m (natOf 10 ws) (2 ^ f) p (natOf 10 fs) (pow-pos f) (one-le-pow (length fs) 10 (lit< tt)) (nat-below (form .fraction-digits)) (omega (arith, number, w)) in
+    let q = quotient m (natOf 10 ws) (2 ^ f) p (natOf 10 fs) (pow-pos f) (one-le-pow (length fs) 10 (lit< tt)) (nat-below (form .fraction-digits))
+    (omega (arith, number, w)) in
     let whole : wholeDigits (m / 2 ^ f) ≡ ws = ap wholeDigits (q .0) ∙ whole-only (form .leads) (form .whole-digits) in
     let rest : fractionBy (2 ^ f) f (m % 2 ^ f) ≡ fs =
     fraction-only (2 ^ f) (pow-pos f) (form .trails) (form .fraction-digits) f (m % 2 ^ f) (mod-lt m (pow-pos f)) (ends-start f (m % 2 ^ f)) (sym (q .1)) in

@@ -1,5 +1,5 @@
--- The text of a number, document 01, module 6: "Exact decimal: `-` if negative, integer digits without leading zeros (a lone `0` for
--- none), then, if the fraction is not 0, a point and its digits with no trailing zero." Assumes nothing.
+-- The text of a number, document 01, module 6: "Exact decimal: `-` if negative, integer digits without leading zeros (a
+-- lone `0` for none), then, if the fraction is not 0, a point and its digits with no trailing zero." Assumes nothing.
 use mathlib.Core.Bool.{Bool, true, false, cond}
 use mathlib.Core.List.{List, [], _∷_, _++_, map}
 use Prim.Native.Nat.{ℕ, zero, suc, _+_, _*_, _/_, _%_, _^_}
@@ -12,8 +12,8 @@ use Rattle.format.specs.Meaning.{Outcome, done, refused, unless, faultOf}
 abbrev pub byteOf : ℕ → ℕ
 byteOf d = d + 48
 
--- "integer digits without leading zeros (a lone `0` for none)": the digits of n / 10, if there are any, before n % 10. There are no
--- more than n divisions.
+-- "integer digits without leading zeros (a lone `0` for none)": the digits of n / 10, if there are any,
+-- before n % 10. There are no more than n divisions.
 unfoldable pub wholeBy : ℕ → ℕ → List ℕ
 wholeBy zero n = n ∷ []
 wholeBy (suc k) n = cond (ltb n 10) (n ∷ []) (wholeBy k (n / 10) ++ (n % 10 ∷ []))
@@ -21,8 +21,8 @@ wholeBy (suc k) n = cond (ltb n 10) (n ∷ []) (wholeBy k (n / 10) ++ (n % 10 �
 unfoldable pub wholeDigits : ℕ → List ℕ
 wholeDigits n = wholeBy n n
 
--- "its digits with no trailing zero": of the fraction n / m by exact division, ten times what is left by m, until nothing is left.
--- For m = 2^F these are at most F digits (Digits: `fraction-ends`).
+-- "its digits with no trailing zero": of the fraction n / m by exact division, ten times what is left by m, until
+-- nothing is left. For m = 2^F these are at most F digits (Digits: `fraction-ends`).
 unfoldable pub fractionBy : ℕ → ℕ → ℕ → List ℕ
 fractionBy m zero n = []
 fractionBy m (suc k) n = cond (eqb n 0) [] (n * 10 / m ∷ fractionBy m k (n * 10 % m))
@@ -40,7 +40,8 @@ wholeText n = map byteOf (wholeDigits n)
 unfoldable pub fractionText : ℕ → ℕ → List ℕ
 fractionText f n = cond (eqb n 0) [] (46 ∷ map byteOf (fractionDigits f n))
 
--- the text of a sign and a magnitude with F fraction bits: the whole part is magnitude / 2^F, the fraction is the rest over 2^F
+-- the text of a sign and a magnitude with F fraction bits: the whole part is
+-- magnitude / 2^F, the fraction is the rest over 2^F
 unfoldable pub textOf : Bool → ℕ → ℕ → List ℕ
 textOf neg m f = signText neg ++ (wholeText (m / 2 ^ f) ++ fractionText f (m % 2 ^ f))
 

@@ -1,5 +1,5 @@
--- What each public function promises, by name: its answer and what it leaves in the buffer. A promise leaves one outcome only.
--- Assumes nothing.
+-- What each public function promises, by name: its answer and what it leaves in the buffer. A
+-- promise leaves one outcome only. Assumes nothing.
 use mathlib.Core.Path.{_≡_, sym, _∙_}
 use mathlib.Core.List.{List}
 use Prim.Native.Nat.{ℕ}

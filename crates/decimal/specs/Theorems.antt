@@ -28,14 +28,16 @@ use Rattle.format.specs.Place.{fits-place}
 use Rattle.format.specs.Far.{limit-word}
 use Rattle.digits.specs.Meaning.{digitsOf}
 use Rattle.grammar.specs.Meaning.{digitOf, Written, Reading, number, unread, plainReading, num, den, rawOf, isRadix, readOf, blank}
-use Rattle.grammar.specs.Automaton.{isDigit, Part, whole, fraction, Seen, nothing, sign, digit, at, Error, onSign, onPoint, step, scan, ended, finish, plainScan, readingOf}
+use Rattle.grammar.specs.Automaton.{isDigit, Part, whole, fraction, Seen, nothing, sign, digit, at, Error}
+use Rattle.grammar.specs.Automaton.{onSign, onPoint, step, scan, ended, finish, plainScan, readingOf}
 use Rattle.grammar.specs.Agrees.{plain-scanned}
 use Rattle.grammar.specs.Naturals.{natOf}
 use Rattle.grammar.specs.Class.{digit-ten}
 use Rattle.grammar.specs.Accepted.{scan-append}
 use Rattle.grammar.specs.Run.{digitValues, values-digit, runMore, runLen, partOf, withDigits, seenAfter, scan-run}
 use Rattle.grammar.specs.Theorems.{Taken, read-as}
-use Rattle.decimal.specs.Meaning.{byteOf, wholeDigits, fractionBy, fractionDigits, signText, wholeText, fractionText, textOf, rawText, put, bufferAfter, writeOf, leftOf}
+use Rattle.decimal.specs.Meaning.{byteOf, wholeDigits, fractionBy, fractionDigits, signText, wholeText}
+use Rattle.decimal.specs.Meaning.{fractionText, textOf, rawText, put, bufferAfter, writeOf, leftOf}
 use Rattle.decimal.specs.Promise.{WriteSigned}
 use Rattle.decimal.specs.Digits.{whole-last, whole-length, whole-text-length}
 use Rattle.decimal.specs.Form.{Digits, none, more, Leads, lone, first, Form, Writes, pointed, formText, text-form, digits-write, form-of, only}
@@ -77,8 +79,11 @@ pub text-length : (neg : Bool) (m f : ℕ) → m < 2 ^ 64 → f ≤ 64 → lengt
 unfolding textOf
 text-length neg m f h l = pick (ltb f 64) refl
   where
-    parts : length (signText neg ++ (wholeText (m / 2 ^ f) ++ fractionText f (m % 2 ^ f))) ≡ length (signText neg) + (length (wholeText (m / 2 ^ f)) + length (fractionText f (m % 2 ^ f)))
-    parts = length-append (signText neg) (wholeText (m / 2 ^ f) ++ fractionText f (m % 2 ^ f)) ∙ ap (λ (n : ℕ). length (signText neg) + n) (length-append (wholeText (m / 2 ^ f)) (fractionText f (m % 2 ^ f)))
+    parts : length (signText neg ++ (wholeText (m / 2 ^ f) ++ fractionText f (m % 2 ^ f)))
+        ≡ length (signText neg) + (length (wholeText (m / 2 ^ f)) + length (fractionText f (m % 2 ^ f)))
+    parts =
+        length-append (signText neg) (wholeText (m / 2 ^ f) ++ fractionText f (m % 2 ^ f))
+        ∙ ap (λ (n : ℕ). length (signText neg) + n) (length-append (wholeText (m / 2 ^ f)) (fractionText f (m % 2 ^ f)))
 
     most : length (wholeText (m / 2 ^ f)) + f ≤ 65 → length (signText neg ++ (wholeText (m / 2 ^ f) ++ fractionText f (m % 2 ^ f))) ≤ 67
     most s = omega (arith, s, parts, minus-length neg, fraction-text-length f (m % 2 ^ f))
@@ -88,7 +93,8 @@ text-length neg m f h l = pick (ltb f 64) refl
     pick false e =
         let full : f ≡ 64 = omega (arith, ltb-false f 64 e) in
         let nothing-whole : m / 2 ^ f ≡ 0 = ap (λ (k : ℕ). m / 2 ^ k) full ∙ div-eq-of-lt h in
-        let one : length (wholeText (m / 2 ^ f)) ≡ 1 = whole-text-length (m / 2 ^ f) ∙ ap (λ (q : ℕ). length (wholeDigits q)) nothing-whole ∙ ap length (whole-last 0 (lit< tt)) in
+        let one : length (wholeText (m / 2 ^ f)) ≡ 1 = whole-text-length (m / 2 ^ f) ∙ ap (λ (q : ℕ). length (wholeDigits q)) nothing-whole
+        ∙ ap length (whole-last 0 (lit< tt)) in
         most (omega (arith, one))
 
 -- ---- what the scan makes of a text of the form
@@ -114,7 +120,8 @@ run-all (more h r) = rw (byte-digit h, run-more r)
 values : {ds : List ℕ} → Digits ds → digitValues (map byteOf ds) ≡ ds
 unfolding digitValues digitsOf
 values none = refl
-values (more {d} {ds} h r) = values-digit (byteOf d) (map byteOf ds) (ne-eqb (byteOf d) 95 (omega arith)) ∙ ap₂ (λ (v : ℕ) (vs : List ℕ). v ∷ vs) (byte-value h) (values r)
+values (more {d} {ds} h r) =
+    values-digit (byteOf d) (map byteOf ds) (ne-eqb (byteOf d) 95 (omega arith)) ∙ ap₂ (λ (v : ℕ) (vs : List ℕ). v ∷ vs) (byte-value h) (values r)
 
 scan-digits : (p : Bool) {d : ℕ} {ds : List ℕ} → Digits (d ∷ ds) → (q : Seen) (x : Written)
     → scan Error 10 (map byteOf (d ∷ ds)) (at (partOf p) q x) ≡ at (partOf p) digit (withDigits p x (d ∷ ds))
@@ -136,14 +143,17 @@ abbrev pub partFor : List ℕ → Part
 partFor [] = whole
 partFor (d ∷ ds) = fraction
 
-after-sign : (neg : Bool) (t : List ℕ) → (q : Seen) × (scan Error 10 (signText neg ++ t) (at whole nothing (blank false)) ≡ scan Error 10 t (at whole q (blank neg)))
+after-sign : (neg : Bool) (t : List ℕ) → (q : Seen) × (scan Error 10 (signText neg ++ t) (at whole nothing (blank false)) ≡ scan Error 10 t
+    (at whole q (blank neg)))
 unfolding signText scan step onSign
 after-sign true t = (sign, refl)
 after-sign false t = (nothing, refl)
 
-after-point : (neg : Bool) (ws : List ℕ) {fs : List ℕ} → Digits fs → scan Error 10 (pointed fs) (at whole digit (withDigits false (blank neg) ws)) ≡ at (partFor fs) digit (written neg ws fs)
+after-point : (neg : Bool) (ws : List ℕ) {fs : List ℕ} → Digits fs
+    → scan Error 10 (pointed fs) (at whole digit (withDigits false (blank neg) ws)) ≡ at (partFor fs) digit (written neg ws fs)
 unfolding pointed scan step onPoint
-after-point neg ws none = ap (λ (ds : List ℕ). at whole digit (record { neg = neg; digits = ds; after = 0; base = 1; down = false; exp = 0 })) (sym (append-nil ws))
+after-point neg ws none =
+    ap (λ (ds : List ℕ). at whole digit (record { neg = neg; digits = ds; after = 0; base = 1; down = false; exp = 0 })) (sym (append-nil ws))
 after-point neg ws (more {d} {ds} h r) =
     scan-digits true (more h r) nothing (withDigits false (blank neg) ws)
     ∙ ap (λ (n : ℕ). at fraction digit (record { neg = neg; digits = ws ++ (d ∷ ds); after = n; base = 1; down = false; exp = 0 })) (zero-add (length (d ∷ ds)))
@@ -152,7 +162,8 @@ some-whole : {ws : List ℕ} → Leads ws → 0 < length ws
 some-whole lone = lit< tt
 some-whole (first h) = omega arith
 
-whole-scan : {ws : List ℕ} → Leads ws → Digits ws → (q : Seen) (x : Written) → scan Error 10 (map byteOf ws) (at whole q x) ≡ at whole digit (withDigits false x ws)
+whole-scan : {ws : List ℕ} → Leads ws → Digits ws → (q : Seen) (x : Written)
+    → scan Error 10 (map byteOf ws) (at whole q x) ≡ at whole digit (withDigits false x ws)
 whole-scan lone h q x = scan-digits false h q x
 whole-scan (first l) h q x = scan-digits false h q x
 
@@ -219,7 +230,8 @@ module _ (k : Manner) (s : Sign) (w f : ℕ) (format : faultOf w f ≡ 0) where
 
   read-text : (neg : Bool) (m : ℕ) → (neg ≡ true → 0 < m) → InRange s w (withSign neg m) → readOf k s w f 10 (textOf neg m f) ≡ done (withSign neg m) false
   read-text neg m h range =
-      ap (readOf k s w f 10) (text-form neg m f) ∙ read-form neg (wholeDigits (m / 2 ^ f)) (fractionDigits f (m % 2 ^ f)) m (form-of neg m f h) (digits-write m f) range
+      ap (readOf k s w f 10) (text-form neg m f)
+      ∙ read-form neg (wholeDigits (m / 2 ^ f)) (fractionDigits f (m % 2 ^ f)) m (form-of neg m f h) (digits-write m f) range
 
   pub write-read : (raw : ℤ) → InRange s w raw → readOf k s w f 10 (rawText raw f) ≡ done raw false
   unfolding rawText withSign
@@ -240,7 +252,8 @@ numberOf f (unread n) = pos 0
 text-number : (neg : Bool) (m f : ℕ) → (neg ≡ true → 0 < m) → numberOf f (plainReading 10 (textOf neg m f)) ≡ withSign neg m
 text-number neg m f h =
     let form = form-of neg m f h in
-    ap (λ (t : List ℕ). numberOf f (plainReading 10 t)) (text-form neg m f) ∙ ap (numberOf f) (form-reads form) ∙ ap (withSign neg) (raw-exact form m f (digits-write m f))
+    ap (λ (t : List ℕ). numberOf f (plainReading 10 t)) (text-form neg m f) ∙ ap (numberOf f) (form-reads form)
+    ∙ ap (withSign neg) (raw-exact form m f (digits-write m f))
 
 raw-number : (raw : ℤ) (f : ℕ) → numberOf f (plainReading 10 (rawText raw f)) ≡ raw
 unfolding rawText withSign

@@ -11,7 +11,9 @@ use crate::POINT;
 // The point and the digits of the fraction from the point's place on, nothing for 0; where they end.
 pub(crate) fn write(text: &mut [u8; PLACES], magnitude: u64, frac: u32) -> usize
     requires { ⌜ (frac ≤ 64) × (length (now text) ≡ places) ⌝ }
-    ensures { λ r. ⌜ (r ≡ point + length (fractionText frac (magnitude % 2 ^ frac))) × (r ≤ places) × (take r (now (text .exit)) ≡ take point (now (text .entry)) ++ fractionText frac (magnitude % 2 ^ frac)) × (length (now (text .exit)) ≡ places) ⌝ }
+    ensures { λ r. ⌜ (r ≡ point + length (fractionText frac (magnitude % 2 ^ frac))) × (r ≤ places)
+        × (take r (now (text .exit)) ≡ take point (now (text .entry)) ++ fractionText frac (magnitude % 2 ^ frac))
+        × (length (now (text .exit)) ≡ places) ⌝ }
 {
     digits(text, scaled(magnitude, frac), frac)
 }
@@ -27,11 +29,13 @@ fn scaled(magnitude: u64, frac: u32) -> u64
     magnitude << (64 - frac)
 }
 
-// The digits of fraction / 2^64, two at a time: the word above a hundred times what is left, until nothing is left. Where the
-// number of digits is odd, the last pair has a zero to spare.
+// The digits of fraction / 2^64, two at a time: the word above a hundred times what is left, until nothing is left.
+// Where the number of digits is odd, the last pair has a zero to spare.
 fn digits(text: &mut [u8; PLACES], fraction: u64, frac: u32) -> usize
     requires { ⌜ (frac ≤ 64) × (length (now text) ≡ places) × Ends frac (2 ^ 64) fraction ⌝ }
-    ensures { λ r. ⌜ (r ≡ point + length (wordText frac fraction)) × (r ≤ places) × (take r (now (text .exit)) ≡ take point (now (text .entry)) ++ wordText frac fraction) × (length (now (text .exit)) ≡ places) ⌝ }
+    ensures { λ r. ⌜ (r ≡ point + length (wordText frac fraction)) × (r ≤ places)
+        × (take r (now (text .exit)) ≡ take point (now (text .entry)) ++ wordText frac fraction)
+        × (length (now (text .exit)) ≡ places) ⌝ }
 {
     if fraction == 0 {
         return POINT;

@@ -15,8 +15,8 @@ mod whole;
 // The refusal of a buffer that is shorter than the text.
 pub const TOO_SMALL: u32 = 5;
 
-// A text is laid out around its point: sign and whole digits end before it, at most 21 bytes; the point and at most 64 digits
-// follow, and a place to spare. So neither part waits for the other's length.
+// A text is laid out around its point: sign and whole digits end before it, at most 21 bytes; the point and at most 64
+// digits follow, and a place to spare. So neither part waits for the other's length.
 const POINT: usize = 21;
 
 const PLACES: usize = 87;
@@ -30,7 +30,8 @@ struct Span {
 // The text of a number into the buffer, or 5 where that is too small. Nothing is written before the length is known.
 fn put(neg: bool, magnitude: u64, frac: u32, out: &mut [u8]) -> UnsignedAnswer
     requires { ⌜ frac ≤ 64 ⌝ }
-    ensures { λ r. ⌜ (r ≡ putAnswer (textOf neg magnitude frac) (now (out .entry))) × (now (out .exit) ≡ putOver (textOf neg magnitude frac) (now (out .entry))) ⌝ }
+    ensures { λ r. ⌜ (r ≡ putAnswer (textOf neg magnitude frac) (now (out .entry)))
+        × (now (out .exit) ≡ putOver (textOf neg magnitude frac) (now (out .entry))) ⌝ }
 {
     let mut text = [0u8; PLACES];
     let span = fill(&mut text, neg, magnitude, frac);
@@ -62,7 +63,9 @@ fn fill(text: &mut [u8; PLACES], neg: bool, magnitude: u64, frac: u32) -> Span
 // `-` before the digits of a negative number.
 fn sign(text: &mut [u8; PLACES], neg: bool, at: usize) -> usize
     requires { ⌜ (0 < at) × (at < places) × (length (now text) ≡ places) ⌝ }
-    ensures { λ r. ⌜ (r + length (signText neg) ≡ at) × (drop r (now (text .exit)) ≡ signText neg ++ drop at (now (text .entry))) × (length (now (text .exit)) ≡ places) ⌝ }
+    ensures { λ r. ⌜ (r + length (signText neg) ≡ at)
+        × (drop r (now (text .exit)) ≡ signText neg ++ drop at (now (text .entry)))
+        × (length (now (text .exit)) ≡ places) ⌝ }
 {
     if neg {
         text[at - 1] = b'-';

@@ -11,7 +11,9 @@ use crate::POINT;
 // The digits of the whole part, the last one just before the point; where they start.
 pub(crate) fn write(text: &mut [u8; PLACES], magnitude: u64, frac: u32) -> usize
     requires { ⌜ (frac ≤ 64) × (length (now text) ≡ places) ⌝ }
-    ensures { λ r. ⌜ (r + length (wholeText (magnitude / 2 ^ frac)) ≡ point) × (drop r (now (text .exit)) ≡ wholeText (magnitude / 2 ^ frac) ++ drop point (now (text .entry))) × (length (now (text .exit)) ≡ places) ⌝ }
+    ensures { λ r. ⌜ (r + length (wholeText (magnitude / 2 ^ frac)) ≡ point)
+        × (drop r (now (text .exit)) ≡ wholeText (magnitude / 2 ^ frac) ++ drop point (now (text .entry)))
+        × (length (now (text .exit)) ≡ places) ⌝ }
 {
     digits(text, part(magnitude, frac))
 }
@@ -30,7 +32,9 @@ fn part(magnitude: u64, frac: u32) -> u64
 // The digits of n, from the last one to the first.
 fn digits(text: &mut [u8; PLACES], n: u64) -> usize
     requires { ⌜ length (now text) ≡ places ⌝ }
-    ensures { λ r. ⌜ (r + length (wholeText n) ≡ point) × (drop r (now (text .exit)) ≡ wholeText n ++ drop point (now (text .entry))) × (length (now (text .exit)) ≡ places) ⌝ }
+    ensures { λ r. ⌜ (r + length (wholeText n) ≡ point)
+        × (drop r (now (text .exit)) ≡ wholeText n ++ drop point (now (text .entry)))
+        × (length (now (text .exit)) ≡ places) ⌝ }
 {
     let mut at = POINT;
     let mut rest = n;

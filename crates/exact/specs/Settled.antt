@@ -9,10 +9,12 @@ use Rattle.format.specs.Meaning.{signed, unsigned, faultOf, unless, settle, sig
 use Rattle.format.specs.Answer.{pass-signed, pass-unsigned}
 
 module _ (w f : ℕ) (k : Manner) {x y : ℤ} (e : x ≡ y) where
-  pub settled-signed : {r : SignedAnswer} → r ≡ signedAnswer (unless (faultOf w f) (settle k signed w x)) → r ≡ signedAnswer (unless (faultOf w f) (settle k signed w y))
+  pub settled-signed : {r : SignedAnswer} → r ≡ signedAnswer (unless (faultOf w f) (settle k signed w x))
+      → r ≡ signedAnswer (unless (faultOf w f) (settle k signed w y))
   settled-signed p = p ∙ ap (λ (z : ℤ). signedAnswer (unless (faultOf w f) (settle k signed w z))) e
 
-  pub settled-unsigned : {r : UnsignedAnswer} → r ≡ unsignedAnswer (unless (faultOf w f) (settle k unsigned w x)) → r ≡ unsignedAnswer (unless (faultOf w f) (settle k unsigned w y))
+  pub settled-unsigned : {r : UnsignedAnswer} → r ≡ unsignedAnswer (unless (faultOf w f) (settle k unsigned w x))
+      → r ≡ unsignedAnswer (unless (faultOf w f) (settle k unsigned w y))
   settled-unsigned p = p ∙ ap (λ (z : ℤ). unsignedAnswer (unless (faultOf w f) (settle k unsigned w z))) e
 
 -- the same behind the refusals

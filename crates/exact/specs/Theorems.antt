@@ -17,5 +17,16 @@ wrap-same s w {x} {y} h c =
     (wrap-only s w h x (wrap-in s w h y)
     (record {
       turns = d .turns +ℤ c .turns;
-      differ = omega (kit, c .differ, d .differ, *ℤ-distribʳ (d .turns) (c .turns) m, add-out y (c .turns *ℤ m), add-out z (d .turns *ℤ m), add-out (d .turns *ℤ m) (c .turns *ℤ m), add-out z ((d .turns +ℤ c .turns) *ℤ m));
+      differ =
+          omega (
+            kit,
+            c .differ,
+            d .differ,
+            *ℤ-distribʳ (d .turns) (c .turns) m,
+            add-out y (c .turns *ℤ m),
+            add-out z (d .turns *ℤ m),
+            add-out (d .turns *ℤ m)
+                (c .turns *ℤ m),
+            add-out z ((d .turns +ℤ c .turns) *ℤ m),
+          );
     }))

@@ -138,7 +138,8 @@ pub fn product(x: Number, y: Number, frac: u32) -> Exact
 // Magnitudes up to this, with any signs, have a signed word as their product.
 const MULTIPLIES: u64 = 0x8000_0000;
 
-// a * b / 2^frac, rounded toward minus infinity: one multiplication and one shift for numbers that fit 32 bits, so for every product of the narrow widths.
+// a * b / 2^frac, rounded toward minus infinity: one multiplication and one shift for numbers that fit 32
+// bits, so for every product of the narrow widths.
 pub fn signed_product(a: i64, b: i64, frac: u32) -> Exact
     ensures { λ r. ⌜ exactOf r ≡ floorOf (a *ℤ b) (2 ^ frac) ⌝ }
 {

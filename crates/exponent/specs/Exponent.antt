@@ -8,7 +8,8 @@ use native.Mathlib.Omega.{arith}
 use lib.Dec.{leb}
 use borrow.Author.Tests.{ltb-true, le-leb, lt-leb, leb-true}
 use Rattle.grammar.specs.Meaning.{digitOf, Written, expLimit, withExp}
-use Rattle.grammar.specs.Automaton.{isDigit, Part, exponent, Seen, digit, Scan, at, refuse, Sep, onExpDigit, step, scan, finish, onSign, onPoint, onUnderscore, onMark, onOther, readingOf}
+use Rattle.grammar.specs.Automaton.{isDigit, Part, exponent, Seen, digit, Scan, at, refuse, Sep, onExpDigit, step}
+use Rattle.grammar.specs.Automaton.{scan, finish, onSign, onPoint, onUnderscore, onMark, onOther, readingOf}
 use Rattle.grammar.specs.Class.{classOf, ten-plain}
 use Rattle.grammar.specs.Run.{sepOf}
 use Rattle.grammar.specs.Reading.{reading, onClass, read-next, expSeen, expAt}
@@ -40,22 +41,26 @@ unfoldable pub expScan : ExpStep → Written → Scan
 expScan (On e) x = expAt true x e
 expScan (Refuse n) x = refuse n
 
-read-step : (k : Sep) (radix b : ℕ) (t : List ℕ) (p : Part) (q : Seen) (x : Written) {s : Scan} → step k radix b p q x ≡ s → reading k radix (b ∷ t) (at p q x) ≡ reading k radix t s
+read-step : (k : Sep) (radix b : ℕ) (t : List ℕ) (p : Part) (q : Seen) (x : Written) {s : Scan} → step k radix b p q x ≡ s
+    → reading k radix (b ∷ t) (at p q x) ≡ reading k radix t s
 unfolding reading scan
 read-step k radix b t p q x e = ap (λ (s : Scan). readingOf (finish (scan k radix t s))) e
 
 module _ (skip : Bool) (radix b : ℕ) (x : Written) (e : ℕ) where
-  exp-digit-step : (seen : Bool) → isDigit 10 b ≡ true → step (sepOf skip) radix b exponent (expSeen seen) (withExp x (x .down) e) ≡ expScan (expDigit (x .down) e (digitOf b)) x
+  exp-digit-step : (seen : Bool) → isDigit 10 b ≡ true
+      → step (sepOf skip) radix b exponent (expSeen seen) (withExp x (x .down) e) ≡ expScan (expDigit (x .down) e (digitOf b)) x
   unfolding step onOther onExpDigit expDigit expScan
   exp-digit-step seen h =
       let n = ten-plain radix b (ltb-true (digitOf b) 10 h) in
       simp (n .no-sign, n .no-point, n .no-under, n .no-mark, h) (go (leb (e * 10 + digitOf b) (expLimit (x .down))))
     where
-      go : (t : Bool) → cond t (at exponent digit (withExp x (x .down) (e * 10 + digitOf b))) (refuse 19) ≡ expScan (cond t (On (e * 10 + digitOf b)) (Refuse 19)) x
+      go : (t : Bool) → cond t (at exponent digit (withExp x (x .down) (e * 10 + digitOf b))) (refuse 19)
+          ≡ expScan (cond t (On (e * 10 + digitOf b)) (Refuse 19)) x
       go true = refl
       go false = refl
 
-  exp-other-step : (seen : Bool) → isDigit 10 b ≡ false → onClass (classOf radix b) (sepOf skip) radix b exponent (expSeen seen) (withExp x (x .down) e) ≡ expScan (expOther (classOf radix b) skip seen e) x
+  exp-other-step : (seen : Bool) → isDigit 10 b ≡ false
+      → onClass (classOf radix b) (sepOf skip) radix b exponent (expSeen seen) (withExp x (x .down) e) ≡ expScan (expOther (classOf radix b) skip seen e) x
   unfolding onClass onSign onPoint onUnderscore onMark onOther expOther expUnder expScan
   exp-other-step seen h = go (classOf radix b) skip seen
     where
@@ -70,11 +75,14 @@ module _ (skip : Bool) (radix b : ℕ) (x : Written) (e : ℕ) where
       go Other skip seen = rw h
 
   -- one byte of the exponent
-  pub read-exp : (seen : Bool) (t : List ℕ) → reading (sepOf skip) radix (b ∷ t) (expAt seen x e) ≡ reading (sepOf skip) radix t (expScan (expStepOf skip radix seen (x .down) e b) x)
+  pub read-exp : (seen : Bool) (t : List ℕ)
+      → reading (sepOf skip) radix (b ∷ t) (expAt seen x e) ≡ reading (sepOf skip) radix t (expScan (expStepOf skip radix seen (x .down) e b) x)
   unfolding expStepOf
   read-exp seen t = go (isDigit 10 b) refl
     where
-      go : (d : Bool) → isDigit 10 b ≡ d → reading (sepOf skip) radix (b ∷ t) (expAt seen x e) ≡ reading (sepOf skip) radix t (expScan (cond d (expDigit (x .down) e (digitOf b)) (expOther (classOf radix b) skip seen e)) x)
+      go : (d : Bool) → isDigit 10 b ≡ d
+          → reading (sepOf skip) radix (b ∷ t) (expAt seen x e)
+          ≡ reading (sepOf skip) radix t (expScan (cond d (expDigit (x .down) e (digitOf b)) (expOther (classOf radix b) skip seen e)) x)
       go true h = read-step (sepOf skip) radix b t exponent (expSeen seen) (withExp x (x .down) e) (exp-digit-step seen h)
       go false h = read-next (sepOf skip) radix b t exponent (expSeen seen) (withExp x (x .down) e) ∙ ap (reading (sepOf skip) radix t) (exp-other-step seen h)
 

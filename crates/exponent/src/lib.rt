@@ -1,5 +1,5 @@
-// The exponent of a text, a byte at a time: a digit takes it further, a `_` that is skipped leaves it, anything else is refused. An inner
-// function of the scanner.
+// The exponent of a text, a byte at a time: a digit takes it further, a `_` that is skipped leaves it, anything else
+// is refused. An inner function of the scanner.
 ghost use mathlib.Core.Path.{_≡_};
 ghost use Prim.Native.Nat.{_≤_};
 ghost use Rattle.grammar.specs.Meaning.{expLimit};

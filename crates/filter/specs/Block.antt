@@ -27,7 +27,8 @@ pub record SoFar (taps history samples : List ℤ) (i : ℕ) (line outputs : Lis
   pub few : count ≤ i
   pub through : Through taps history (take i samples) line (take i outputs) (take i marks) count
 
-pub start : (taps history samples outputs : List ℤ) (marks : List ℕ) → length history ≡ mostTaps → length outputs ≡ length samples → length marks ≡ length samples
+pub start : (taps history samples outputs : List ℤ) (marks : List ℕ) → length history ≡ mostTaps → length outputs ≡ length samples
+    → length marks ≡ length samples
     → SoFar taps history samples 0 history outputs marks 0
 unfolding historyAfter outputsOf clipsOf clipped
 start taps history samples outputs marks e f g =
@@ -40,8 +41,10 @@ start taps history samples outputs marks e f g =
       through = record { final-is = refl; outputs-are = refl; marks-are = refl; count-is = refl };
     }
 
-module _ (taps history samples : List ℤ) (i : ℕ) (line outputs : List ℤ) (marks : List ℕ) (count : ℕ) (s : SoFar taps history samples i line outputs marks count) where
-  pub more : (line' : List ℤ) (y : ℤ) (b : ℕ) → i < length samples → line' ≡ next line (getD samples i (pos 0)) → y ≡ outputOf taps line' → b ≡ bitOf (clipOf taps line')
+module _ (taps history samples : List ℤ) (i : ℕ) (line outputs : List ℤ) (marks : List ℕ) (count : ℕ)
+    (s : SoFar taps history samples i line outputs marks count) where
+  pub more : (line' : List ℤ) (y : ℤ) (b : ℕ) → i < length samples → line' ≡ next line (getD samples i (pos 0)) → y ≡ outputOf taps line'
+      → b ≡ bitOf (clipOf taps line')
       → SoFar taps history samples (i + 1) line' (set outputs i y) (set marks i b) (count + b)
   more line' y b h l o f =
       let t = s .through in

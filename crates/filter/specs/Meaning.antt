@@ -34,7 +34,8 @@ silence = replicate mostTaps (pos 0)
 unfoldable pub next : List ℤ → ℤ → List ℤ
 next history x = take mostTaps (x ∷ history)
 
--- "Let P be the sum of tap(i) x sample(now - i) for i from 0 to n-1, kept exactly." Where one list is the longer, its rest counts for nothing.
+-- "Let P be the sum of tap(i) x sample(now - i) for i from 0 to n-1, kept exactly." Where one
+-- list is the longer, its rest counts for nothing.
 unfoldable pub sumOf : List ℤ → List ℤ → ℤ
 sumOf [] history = pos 0
 sumOf (tap ∷ taps) [] = pos 0
@@ -82,7 +83,11 @@ pub record Run : Type 0 where
 
 unfoldable pub runOf : List ℤ → List ℤ → List ℤ → Run
 runOf taps history samples =
-    record { outputs = outputsOf taps history samples; flags = clipsOf taps history samples; final = historyAfter history samples }
+    record {
+      outputs = outputsOf taps history samples;
+      flags = clipsOf taps history samples;
+      final = historyAfter history samples;
+    }
 
 -- a clip flag as a byte, and the number of outputs that clipped
 unfoldable pub bitOf : Bool → ℕ

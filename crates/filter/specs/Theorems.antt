@@ -13,7 +13,8 @@ use Rattle.laws.specs.Bound.{abs-add-le, abs-sfits, sfits-mul}
 use Rattle.format.specs.declared.SignedAnswer.the-variants.{Done}
 use Rattle.format.specs.Meaning.{valueS, flagS, guarded}
 use Rattle.filter.specs.declared.Stepped.{Stepped}
-use Rattle.filter.specs.Meaning.{mostTaps, history, next, sumOf, rounded, held, clips, levelOf, outputOf, clipOf, historyAfter, outputsOf, clipsOf, Run, runOf, tapsFault, stepped, stepOf}
+use Rattle.filter.specs.Meaning.{mostTaps, history, next, sumOf, rounded, held, clips, levelOf, outputOf, clipOf}
+use Rattle.filter.specs.Meaning.{historyAfter, outputsOf, clipsOf, Run, runOf, tapsFault, stepped, stepOf}
 use Rattle.filter.specs.Range.{Sample, Samples, more, sample-sfits, sample-keeps, unclipped, held-sample}
 use Rattle.filter.specs.Rounding.{rounded-near}
 use Rattle.filter.specs.Run.{after-append, outputs-append, clips-append, after-is}
@@ -65,7 +66,8 @@ unfoldable pub inTurn : List ℤ → List ℤ → List ℤ → Run
 inTurn taps h [] = record { outputs = []; flags = []; final = h }
 inTurn taps h (x ∷ xs) = front (stepOf taps h x) (inTurn taps (history (stepOf taps h x .state)) xs)
 
-step-is : (taps h : List ℤ) (x : ℤ) → tapsFault (length taps) ≡ 0 → stepOf taps h x ≡ stepped (Done (outputOf taps (next h x)) (clipOf taps (next h x))) (next h x)
+step-is : (taps h : List ℤ) (x : ℤ) → tapsFault (length taps) ≡ 0
+    → stepOf taps h x ≡ stepped (Done (outputOf taps (next h x)) (clipOf taps (next h x))) (next h x)
 unfolding stepOf guarded
 step-is taps h x f = rw f
 

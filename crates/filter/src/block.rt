@@ -27,7 +27,8 @@ pub(crate) fn through(
     requires { ⌜ length (now line) ≡ mostTaps ⌝ }
     requires { ⌜ length (now outputs) ≡ length (now samples) ⌝ }
     requires { ⌜ length (now clips) ≡ length (now samples) ⌝ }
-    ensures { λ r. ⌜ Through (now (taps .entry)) (now (line .entry)) (now (samples .entry)) (now (line .exit)) (now (outputs .exit)) (now (clips .exit)) r ⌝ }
+    ensures { λ r. ⌜ Through (now (taps .entry)) (now (line .entry)) (now (samples .entry)) (now (line .exit))
+        (now (outputs .exit)) (now (clips .exit)) r ⌝ }
 {
     let mut count: u64 = 0;
     let mut i = 0;

@@ -56,7 +56,8 @@ pub fn step(taps: &[i16], state: State, x: i16) -> Stepped
     }
 }
 
-// A block of samples through the filter: an output and a clip byte, 0 or 1, for each. The value is the number of outputs that clipped.
+// A block of samples through the filter: an output and a clip byte, 0 or 1, for each.
+// The value is the number of outputs that clipped.
 pub fn run(
     taps: &[i16],
     state: &mut [i16; TAPS],
@@ -64,7 +65,9 @@ pub fn run(
     outputs: &mut [i16],
     clips: &mut [u8],
 ) -> UnsignedAnswer
-    ensures { λ r. ⌜ Runs (now (taps .entry)) (stateOf (now (state .entry))) (now (samples .entry)) (now (outputs .entry)) (now (clips .entry)) r (stateOf (now (state .exit))) (now (outputs .exit)) (now (clips .exit)) ⌝ }
+    ensures { λ r. ⌜ Runs (now (taps .entry)) (stateOf (now (state .entry))) (now (samples .entry))
+        (now (outputs .entry)) (now (clips .entry)) r (stateOf (now (state .exit))) (now (outputs .exit))
+        (now (clips .exit)) ⌝ }
 {
     let fault = fault::block(taps.len(), samples.len(), outputs.len(), clips.len());
     if fault != 0 {

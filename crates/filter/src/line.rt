@@ -11,7 +11,8 @@ pub(crate) fn whole(line: [i16; TAPS]) -> [i16; TAPS]
     line
 }
 
-// The new sample in front, each other one place on; the oldest goes. One pass, with the sample that is on its way in hand.
+// The new sample in front, each other one place on; the oldest goes. One
+// pass, with the sample that is on its way in hand.
 pub(crate) fn push(line: &mut [i16; TAPS], x: i16)
     requires { ⌜ length (now line) ≡ mostTaps ⌝ }
     ensures { λ _. ⌜ now (line .exit) ≡ next (now (line .entry)) x ⌝ }

@@ -1,4 +1,5 @@
-// Document 01's headroom cases as runs: the verdict, and where it is 1 or 2 the witness, and how many outputs clip on it, fed oldest first from silence.
+// Document 01's headroom cases as runs: the verdict, and where it is 1 or 2 the witness, and how many
+// outputs clip on it, fed oldest first from silence.
 use format::UnsignedAnswer;
 use libc::STDOUT_FILENO;
 

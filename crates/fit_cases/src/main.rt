@@ -1,5 +1,5 @@
-// What `fit` prints of good files, of files that clip, and of each refusal: the files of data/, which oracle/fit_cases.py makes with the
-// file `stdout` beside src/.
+// What `fit` prints of good files, of files that clip, and of each refusal: the files of data/, which
+// oracle/fit_cases.py makes with the file `stdout` beside src/.
 fn main() {
     taken();
     refused();

@@ -8,7 +8,8 @@ use lib.ListN.{replicate}
 use Rattle.laws.specs.Nearest.{nearestEven, nearestBy}
 use Rattle.laws.specs.Text.{bytes}
 use Rattle.format.specs.Meaning.{isWidth, faultOf, lowest, highest, fits, settle, withSign, signedAnswer, numberS, valueS, guarded}
-use Rattle.grammar.specs.Meaning.{digitOf, isMark, exponentFrom, digitsFrom, prefixMark, prefixRadix, dropUnderscores, literalMinus, literalReading, natFrom, num, den, rawOf, outcomeOf, literalOf}
+use Rattle.grammar.specs.Meaning.{digitOf, isMark, exponentFrom, digitsFrom, prefixMark, prefixRadix, dropUnderscores}
+use Rattle.grammar.specs.Meaning.{literalMinus, literalReading, natFrom, num, den, rawOf, outcomeOf, literalOf}
 use Rattle.filter.specs.Meaning.{mostTaps}
 use Rattle.value_lines.specs.Meaning.{fileLimit, onto, linesOf, isValue, valuesFrom, valuesOf, answerOf, rawAt, numberAt}
 use Rattle.fitting.specs.declared.FileAnswer.{FileAnswer}
@@ -32,13 +33,19 @@ abbrev Untouched : String → ℕ → ℕ → Type 0
 Untouched file n number = Gives file n (Refused number) (sevens n) (signed-sevens n) (sevens n) (signed-sevens n)
 
 -- two values with a comment and an empty line; the last line has no LF; the third place stays
-pub taps-case : Gives "# taps\n0.5\n\n-1" 3 (Done 2) (2 ∷ 4 ∷ 7 ∷ []) (pos 16384 ∷ negsuc 32767 ∷ pos 7 ∷ []) (0 ∷ 0 ∷ 7 ∷ []) (pos 16384 ∷ negsuc 32767 ∷ pos 7 ∷ [])
-unfolding fittedOf fileFault roomFault valuesOf valuesFrom linesOf onto isValue answerOf rawAt numberAt judge accepted bytes signedAnswer numberS valueS guarded faultOf isWidth lowest highest fits settle withSign digitOf isMark exponentFrom digitsFrom prefixMark prefixRadix dropUnderscores literalMinus literalReading natFrom num den rawOf outcomeOf literalOf nearestEven nearestBy
+pub taps-case : Gives "# taps\n0.5\n\n-1" 3 (Done 2) (2 ∷ 4 ∷ 7 ∷ []) (pos 16384 ∷ negsuc 32767 ∷ pos 7 ∷ []) (0 ∷ 0 ∷ 7 ∷ [])
+    (pos 16384 ∷ negsuc 32767 ∷ pos 7 ∷ [])
+unfolding fittedOf fileFault roomFault valuesOf valuesFrom linesOf onto isValue answerOf rawAt numberAt judge accepted bytes signedAnswer numberS valueS guarded
+    faultOf isWidth lowest highest fits settle withSign digitOf isMark exponentFrom digitsFrom prefixMark prefixRadix dropUnderscores literalMinus
+    literalReading natFrom num den rawOf outcomeOf literalOf nearestEven nearestBy
 taps-case = refl
 
 -- the second line is refused, 1 does not fit; the third is read all the same; the taps stay
-pub line-case : Gives "0.5\n1\n0x0.8\n+0.5" 4 (Line 2 10) (1 ∷ 2 ∷ 3 ∷ 4 ∷ []) (pos 16384 ∷ pos 0 ∷ pos 16384 ∷ pos 0 ∷ []) (0 ∷ 10 ∷ 0 ∷ 12 ∷ []) (signed-sevens 4)
-unfolding fittedOf fileFault roomFault valuesOf valuesFrom linesOf onto isValue answerOf rawAt numberAt judge accepted bytes signedAnswer numberS valueS guarded faultOf isWidth lowest highest fits settle withSign digitOf isMark exponentFrom digitsFrom prefixMark prefixRadix dropUnderscores literalMinus literalReading natFrom num den rawOf outcomeOf literalOf nearestEven nearestBy
+pub line-case : Gives "0.5\n1\n0x0.8\n+0.5" 4 (Line 2 10) (1 ∷ 2 ∷ 3 ∷ 4 ∷ []) (pos 16384 ∷ pos 0 ∷ pos 16384 ∷ pos 0 ∷ []) (0 ∷ 10 ∷ 0 ∷ 12 ∷ [])
+    (signed-sevens 4)
+unfolding fittedOf fileFault roomFault valuesOf valuesFrom linesOf onto isValue answerOf rawAt numberAt judge accepted bytes signedAnswer numberS valueS guarded
+    faultOf isWidth lowest highest fits settle withSign digitOf isMark exponentFrom digitsFrom prefixMark prefixRadix dropUnderscores literalMinus
+    literalReading natFrom num den rawOf outcomeOf literalOf nearestEven nearestBy
 line-case = refl
 
 -- CR belongs to its line, and so do blanks; `#` starts a comment only where it stands first
@@ -46,7 +53,9 @@ pub damaged-cases :
     Gives "0.5\r\n" 1 (Line 1 13) (1 ∷ []) (pos 0 ∷ []) (13 ∷ []) (signed-sevens 1)
     × (Gives " #" 1 (Line 1 13) (1 ∷ []) (pos 0 ∷ []) (13 ∷ []) (signed-sevens 1)
     × Gives "0.5 # half" 1 (Line 1 13) (1 ∷ []) (pos 0 ∷ []) (13 ∷ []) (signed-sevens 1))
-unfolding fittedOf fileFault roomFault valuesOf valuesFrom linesOf onto isValue answerOf rawAt numberAt judge accepted bytes signedAnswer numberS valueS guarded faultOf isWidth lowest highest fits settle withSign digitOf isMark exponentFrom digitsFrom prefixMark prefixRadix dropUnderscores literalMinus literalReading natFrom num den rawOf outcomeOf literalOf nearestEven nearestBy
+unfolding fittedOf fileFault roomFault valuesOf valuesFrom linesOf onto isValue answerOf rawAt numberAt judge accepted bytes signedAnswer numberS valueS guarded
+    faultOf isWidth lowest highest fits settle withSign digitOf isMark exponentFrom digitsFrom prefixMark prefixRadix dropUnderscores literalMinus
+    literalReading natFrom num den rawOf outcomeOf literalOf nearestEven nearestBy
 damaged-cases = (refl, (refl, refl))
 
 -- no value; a place too few, also where a line is refused

@@ -30,7 +30,8 @@ abbrev pub judgedFrom : ℕ → List ℕ → List ℕ → ℕ → FileAnswer
 judgedFrom n lines answers i = judgedOf n (drop i (take n lines)) (drop i (take n answers))
 
 module _ (n : ℕ) (lines answers : List ℕ) (room : n ≤ length lines) (room' : n ≤ length answers) (i : ℕ) where
-  left-cons : i < n → judgedFrom n lines answers i ≡ judgedOf n (getD lines i 0 ∷ drop (suc i) (take n lines)) (getD answers i 0 ∷ drop (suc i) (take n answers))
+  left-cons : i < n → judgedFrom n lines answers i
+      ≡ judgedOf n (getD lines i 0 ∷ drop (suc i) (take n lines)) (getD answers i 0 ∷ drop (suc i) (take n answers))
   left-cons h =
       let a : i < length (take n lines) = rw length-take (omega arith) in
       let b : i < length (take n answers) = rw length-take (omega arith) in

@@ -8,7 +8,8 @@ use Rattle.fitting.specs.declared.FileAnswer.{FileAnswer}
 use Rattle.fitting.specs.Meaning.{Fitted, fitted, fittedOf}
 
 abbrev pub Reads : List ℕ → List ℕ → List ℤ → List ℕ → List ℤ → FileAnswer → List ℕ → List ℤ → List ℕ → List ℤ → Type 0
-Reads file lines raws answers taps r lines' raws' answers' taps' = fitted r lines' raws' answers' taps' ≡ fittedOf file lines raws answers taps
+Reads file lines raws answers taps r lines' raws' answers' taps' =
+    fitted r lines' raws' answers' taps' ≡ fittedOf file lines raws answers taps
 
 -- the parts of one outcome that two calls can differ in
 pub record Same (f g : Fitted) : Type 0 where

@@ -36,7 +36,8 @@ unfolding accepted judge
 judge-done n [] e = refl
 judge-done n (v ∷ vs) e = go (eqb (numberAt v) 0) (judge-done n vs) e
   where
-    go : (b : Bool) → (accepted vs ≡ true → judge n vs ≡ Done n) → cond b (accepted vs) false ≡ true → cond b (judge n vs) (Line (v .number) (numberAt v)) ≡ Done n
+    go : (b : Bool) → (accepted vs ≡ true → judge n vs ≡ Done n) → cond b (accepted vs) false ≡ true
+        → cond b (judge n vs) (Line (v .number) (numberAt v)) ≡ Done n
     go true h e = h e
     go false h e = let z : _≡_ {A = ℕ} 0 1 = cc in absurd (omega arith)
 
@@ -45,7 +46,8 @@ unfolding accepted judge
 judge-not n [] e m d = let z : _≡_ {A = ℕ} 0 1 = cc in omega arith
 judge-not n (v ∷ vs) e m d = go (eqb (numberAt v) 0) (λ h. judge-not n vs h m) e d
   where
-    go : (b : Bool) → (accepted vs ≡ false → judge n vs ≡ Done m → ⊥) → cond b (accepted vs) false ≡ false → cond b (judge n vs) (Line (v .number) (numberAt v)) ≡ Done m → ⊥
+    go : (b : Bool) → (accepted vs ≡ false → judge n vs ≡ Done m → ⊥) → cond b (accepted vs) false ≡ false
+        → cond b (judge n vs) (Line (v .number) (numberAt v)) ≡ Done m → ⊥
     go true h e d = h e d
     go false h e d = let z : _≡_ {A = ℕ} 0 1 = cc in omega arith
 
@@ -102,7 +104,8 @@ module _ (a b c : ℕ) (file lines : List ℕ) (raws : List ℤ) (answers : List
           record { none = h .0; count = cc; room = fault-none (length file) (length (valuesOf file)) a b c (length taps) (h .0) }
       go (inr h) = let z : _≡_ {A = ℕ} 0 1 = cc in absurd (omega arith)
 
-  module _ {n : ℕ} {l : List ℕ} {r : List ℤ} {w : List ℕ} {answer : FileAnswer} (known : Checked n) (stored : AllEntered (valuesOf file) lines raws answers l r w)
+  module _ {n : ℕ} {l : List ℕ} {r : List ℤ} {w : List ℕ} {answer : FileAnswer} (known : Checked n)
+      (stored : AllEntered (valuesOf file) lines raws answers l r w)
       (judged : answer ≡ judgedOf n (take n l) (take n w)) where
     abbrev vs : List ValueLine
     vs = valuesOf file

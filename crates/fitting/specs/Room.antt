@@ -51,9 +51,11 @@ pub record Room (bytes values lines raws answers taps : ℕ) : Type 0 where
 pub fault-none : (bytes values lines raws answers taps : ℕ) → fileFault bytes values lines raws answers taps ≡ 0 → Room bytes values lines raws answers taps
 unfolding fileFault roomFault
 fault-none bytes values lines raws answers taps e =
-    go (leb bytes fileLimit) (leb values mostTaps) (eqb lines raws) (eqb lines answers) (leb values lines) (leb values taps) (eqb values 0) refl refl refl refl refl refl e
+    go (leb bytes fileLimit) (leb values mostTaps) (eqb lines raws) (eqb lines answers) (leb values lines) (leb values taps) (eqb values 0) refl refl refl refl
+    refl refl e
   where
-    go : (a b c d f g h : Bool) → leb bytes fileLimit ≡ a → leb values mostTaps ≡ b → eqb lines raws ≡ c → eqb lines answers ≡ d → leb values lines ≡ f → leb values taps ≡ g
+    go : (a b c d f g h : Bool) → leb bytes fileLimit ≡ a → leb values mostTaps ≡ b → eqb lines raws ≡ c → eqb lines answers ≡ d → leb values lines ≡ f
+        → leb values taps ≡ g
         → _≡_ {A = ℕ} (cond a (cond b (cond c (cond d (cond f (cond g (cond h 40 0) 5) 5) 5) 5) 41) 4) 0 → Room bytes values lines raws answers taps
     go false b c d f g h p q r s t u e = absurd (omega arith)
     go true false c d f g h p q r s t u e = absurd (omega arith)

@@ -1,4 +1,5 @@
-// The fitting file (01, module 9): its value lines as a list of line number, raw and answer, and the taps if none is refused.
+// The fitting file (01, module 9): its value lines as a list of line number,
+// raw and answer, and the taps if none is refused.
 ghost use Rattle.fitting.specs.Promise.{Reads};
 
 pub mod check;
@@ -22,7 +23,8 @@ pub fn read(
     answers: &mut [u32],
     taps: &mut [i16],
 ) -> FileAnswer
-    ensures { λ r. ⌜ Reads (now (file .entry)) (now (lines .entry)) (now (raws .entry)) (now (answers .entry)) (now (taps .entry)) r (now (lines .exit)) (now (raws .exit)) (now (answers .exit)) (now (taps .exit)) ⌝ }
+    ensures { λ r. ⌜ Reads (now (file .entry)) (now (lines .entry)) (now (raws .entry)) (now (answers .entry))
+        (now (taps .entry)) r (now (lines .exit)) (now (raws .exit)) (now (answers .exit)) (now (taps .exit)) ⌝ }
 {
     let checked = check::check(file, lines.len(), raws.len(), answers.len(), taps.len());
     let FileAnswer::Done { values } = checked else {

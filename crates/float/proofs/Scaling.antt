@@ -37,7 +37,8 @@ pub nothing-left : (m k : ℕ) → m < 2 ^ 63 → 64 ≤ k → 0 ≡ nearestEven
 nothing-left m k h l = sym (nearest-none m (2 ^ k) (omega (arith, pow-mono {i = 64} {j = k} l)))
 
 -- ---- two powers cancel
-pub less-up : (m up down : ℕ) {r : ℕ} → up < down → r ≡ nearestEven m (2 ^ (down - up)) → Folds (nearestEven (m * 2 ^ up) (2 ^ down)) (record { high = 0; low = r })
+pub less-up : (m up down : ℕ) {r : ℕ} → up < down → r ≡ nearestEven m (2 ^ (down - up))
+    → Folds (nearestEven (m * 2 ^ up) (2 ^ down)) (record { high = 0; low = r })
 less-up m up down {r} h e =
     let same : nearestEven (m * 2 ^ up) (2 ^ down) ≡ r =
     ap (nearestEven (m * 2 ^ up)) (power-sub up down (le-of-lt h)) ∙ nearest-scale m (2 ^ (down - up)) (2 ^ up) (pow-pos (down - up)) (pow-pos up) ∙ sym e in

@@ -38,7 +38,8 @@ high-agrees : (b : Binary) (d h l : ℕ) (s : Bool) (x t : ℕ)
     (cond (eqb (suc x) l) (cond (eqb t 0) (infinite s) nan) (finite s ((h + t) * 2 ^ x)))
 high-agrees b d h l s x t = go (eqb (suc x) l) (eqb t 0)
   where
-    go : (p q : Bool) → Agrees b (cond p (cond q (inf s) notNumber) (odd d s (h + t) x (least b))) (cond p (cond q (infinite s) nan) (finite s ((h + t) * 2 ^ x)))
+    go : (p q : Bool) → Agrees b (cond p (cond q (inf s) notNumber) (odd d s (h + t) x (least b)))
+        (cond p (cond q (infinite s) nan) (finite s ((h + t) * 2 ^ x)))
     go true true = infinities
     go true false = not-numbers
     go false q = odd-agrees b d s (h + t) x
@@ -61,9 +62,11 @@ pub pattern-agrees : (f : Format) (x : ℕ) → Agrees (ofKit f) (ofBits f x) (p
 unfolding ofBits patternValue
 pattern-agrees kit32 x =
     let e : x % 2 ^ 31 / 2 ^ 23 ≡ x / 2 ^ 23 % 2 ^ 8 = omega arith in
-    subst (λ (n : ℕ). Agrees binary32 (kitFields kit32 (leb (2 ^ 31) x) (x % 2 ^ 31 / 2 ^ 23) (x % 2 ^ 23)) (ofFields binary32 (leb (2 ^ 31) x) n (x % 2 ^ 23))) e
+    subst (λ (n : ℕ). Agrees binary32 (kitFields kit32 (leb (2 ^ 31) x) (x % 2 ^ 31 / 2 ^ 23) (x % 2 ^ 23)) (ofFields binary32 (leb (2 ^ 31) x) n (x % 2 ^ 23)))
+    e
     (fields-agree kit32 (leb (2 ^ 31) x) (x % 2 ^ 31 / 2 ^ 23) (x % 2 ^ 23))
 pattern-agrees kit64 x =
     let e : x % 2 ^ 63 / 2 ^ 52 ≡ x / 2 ^ 52 % 2 ^ 11 = omega arith in
-    subst (λ (n : ℕ). Agrees binary64 (kitFields kit64 (leb (2 ^ 63) x) (x % 2 ^ 63 / 2 ^ 52) (x % 2 ^ 52)) (ofFields binary64 (leb (2 ^ 63) x) n (x % 2 ^ 52))) e
+    subst (λ (n : ℕ). Agrees binary64 (kitFields kit64 (leb (2 ^ 63) x) (x % 2 ^ 63 / 2 ^ 52) (x % 2 ^ 52)) (ofFields binary64 (leb (2 ^ 63) x) n (x % 2 ^ 52)))
+    e
     (fields-agree kit64 (leb (2 ^ 63) x) (x % 2 ^ 63 / 2 ^ 52) (x % 2 ^ 52))

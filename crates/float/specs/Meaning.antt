@@ -1,5 +1,5 @@
--- IEEE 754-2019, clause 3.4, "binary interchange format encodings", once over the precision p and the width w of the exponent field: what a pattern
--- stands for; and how many steps of a format that is. Assumes nothing.
+-- IEEE 754-2019, clause 3.4, "binary interchange format encodings", once over the precision p and the width w of the
+-- exponent field: what a pattern stands for; and how many steps of a format that is. Assumes nothing.
 use mathlib.Core.Bool.{Bool, cond}
 use Prim.Native.Nat.{ℕ, _+_, _-_, _*_, _/_, _%_, _^_}
 use lib.Dec.{eqb, leb}
@@ -20,7 +20,8 @@ binary64 = record { precision = 53; field = 11 }
 abbrev pub bias : Binary → ℕ
 bias b = 2 ^ (b .field - 1) - 1
 
--- the least positive number is 2^(emin - (p-1)), which is 2^-least: every finite number is a whole number of these steps
+-- the least positive number is 2^(emin - (p-1)), which is 2^-least: every
+-- finite number is a whole number of these steps
 abbrev pub least : Binary → ℕ
 least b = bias b + b .precision - 2
 
@@ -40,7 +41,8 @@ pub data Value : Type 0 where
   infinite : Bool → Value
   finite : Bool → ℕ → Value
 
--- "E = 0": T x 2^(emin - (p-1)), a subnormal number or a zero; else (2^(p-1) + T) x 2^(E - bias - (p-1)), where E - bias - (p-1) is E - 1 - least
+-- "E = 0": T x 2^(emin - (p-1)), a subnormal number or a zero; else (2^(p-1) + T) x 2^(E - bias -
+-- (p-1)), where E - bias - (p-1) is E - 1 - least
 abbrev pub steps : Binary → ℕ → ℕ → ℕ
 steps b e t = cond (eqb e 0) t ((2 ^ (b .precision - 1) + t) * 2 ^ (e - 1))
 

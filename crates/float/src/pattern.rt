@@ -1,7 +1,9 @@
-// What a pattern says: its sign, its biased exponent E and its trailing significand T are parts of one number, by shifts and masks.
+// What a pattern says: its sign, its biased exponent E and its trailing significand T
+// are parts of one number, by shifts and masks.
 ghost use mathlib.Core.Path.{_≡_};
 ghost use Prim.Native.Nat.{_-_, _^_, _≤_, _<_};
-ghost use Rattle.float.specs.Meaning.{negative as negativeOf, biased as biasedOf, trailing as trailingOf, least as leastOf};
+ghost use Rattle.float.specs.Meaning.{negative as negativeOf, biased as biasedOf};
+ghost use Rattle.float.specs.Meaning.{trailing as trailingOf, least as leastOf};
 ghost use Rattle.float.specs.Parts.{binary, Small, Significand, magnitudeOf};
 ghost use Rattle.float.specs.Folds.{Folds};
 use crate::bits;
@@ -61,7 +63,8 @@ fn significand(e: u32, t: u64, precision: u32) -> u64
     bits::power(precision - 1) + t
 }
 
-// How many places the significand stands above the least positive number. A subnormal number stands where the first normal ones do.
+// How many places the significand stands above the least positive number. A subnormal
+// number stands where the first normal ones do.
 fn place(e: u32) -> u32
     ensures { λ r. ⌜ r ≡ e - 1 ⌝ }
 {

@@ -88,7 +88,8 @@ abbrev pub isNonzero : ℕ → Bool
 isNonzero b = cond (isGap b) false (ltb 0 (digitOf b))
 
 module _ (t : List ℕ) (i : ℕ) (h : i < length t) where
-  any-byte : (g : Bool) → isGap (getD t i 0) ≡ g → anyOf (digitsAt t i) ≡ cond g (anyOf (digitsAt t (i + 1))) (cond (eqb (digitOf (getD t i 0)) 0) (anyOf (digitsAt t (i + 1))) true)
+  any-byte : (g : Bool) → isGap (getD t i 0) ≡ g
+      → anyOf (digitsAt t i) ≡ cond g (anyOf (digitsAt t (i + 1))) (cond (eqb (digitOf (getD t i 0)) 0) (anyOf (digitsAt t (i + 1))) true)
   unfolding anyOf
   any-byte true e = ap anyOf (from-gap t i h e)
   any-byte false e = ap anyOf (from-digit t i h e)
@@ -103,7 +104,8 @@ module _ (t : List ℕ) (i : ℕ) (h : i < length t) where
   pub any-later : isNonzero (getD t i 0) ≡ false → anyOf (digitsAt t i) ≡ anyOf (digitsAt t (i + 1))
   any-later m = any-byte (isGap (getD t i 0)) refl ∙ go (isGap (getD t i 0)) (digitOf (getD t i 0)) m
     where
-      go : (g : Bool) (d : ℕ) → cond g false (ltb 0 d) ≡ false → cond g (anyOf (digitsAt t (i + 1))) (cond (eqb d 0) (anyOf (digitsAt t (i + 1))) true) ≡ anyOf (digitsAt t (i + 1))
+      go : (g : Bool) (d : ℕ) → cond g false (ltb 0 d) ≡ false
+          → cond g (anyOf (digitsAt t (i + 1))) (cond (eqb d 0) (anyOf (digitsAt t (i + 1))) true) ≡ anyOf (digitsAt t (i + 1))
       go true d e = refl
       go false d e = rw (eq-eqb d 0 (omega (arith, ltb-false 0 d e)))
 
@@ -123,7 +125,9 @@ module _ (t : List ℕ) (from radix : ℕ) {k at : ℕ} {x : Folded} (inv : Take
       let ds = digitsAt t from in
       let digit : d ≡ getD ds k 0 = one .first ∙ ap (λ (l : List ℕ). getD l 0 0) (inv .rest) ∙ getD-drop k ds 0 0 ∙ ap (λ (j : ℕ). getD ds j 0) (omega arith) in
       record {
-        folded = e ∙ ap₂ (λ (z : Folded) (c : ℕ). foldOf (foldedValue z * radix + c)) (inv .folded) digit ∙ fold-step (natOf radix (take k ds)) radix (getD ds k 0) r ∙ ap foldOf (sym (nat-more radix ds k h));
+        folded =
+            e ∙ ap₂ (λ (z : Folded) (c : ℕ). foldOf (foldedValue z * radix + c)) (inv .folded) digit ∙ fold-step (natOf radix (take k ds)) radix (getD ds k 0) r
+            ∙ ap foldOf (sym (nat-more radix ds k h));
         rest = one .rest ∙ ap (drop 1) (inv .rest) ∙ drop-drop 1 k ds;
         within = one .within;
       }

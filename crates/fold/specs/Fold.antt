@@ -49,10 +49,12 @@ words-fit h l a m d f g k e =
 
 module _ (x : Folded) (m d : ℕ) where
   -- a product and a sum, h and l the words of x .low * m + d
-  pub times-over : {r : Folded} (h : ℕ) → 0 < m → h * 2 ^ 64 + r .low ≡ x .low * m + d → r .low < 2 ^ 64 → x .over ≡ true → r .over ≡ true → r ≡ foldOf (foldedValue x * m + d)
+  pub times-over : {r : Folded} (h : ℕ) → 0 < m → h * 2 ^ 64 + r .low ≡ x .low * m + d → r .low < 2 ^ 64 → x .over ≡ true → r .over ≡ true
+      → r ≡ foldOf (foldedValue x * m + d)
   times-over h k e l t f = fold-words (foldedValue x * m + d) (m + h) (rw t (omega arith)) l (f ∙ sym (lt-ltb 0 (m + h) (omega arith)))
 
-  pub times-under : {r : Folded} (h : ℕ) → h * 2 ^ 64 + r .low ≡ x .low * m + d → r .low < 2 ^ 64 → x .over ≡ false → r .over ≡ ltb 0 h → r ≡ foldOf (foldedValue x * m + d)
+  pub times-under : {r : Folded} (h : ℕ) → h * 2 ^ 64 + r .low ≡ x .low * m + d → r .low < 2 ^ 64 → x .over ≡ false → r .over ≡ ltb 0 h
+      → r ≡ foldOf (foldedValue x * m + d)
   times-under h e l t f = fold-words (foldedValue x * m + d) h (rw t (omega arith)) l f
 
 -- rounding, as the code's cases have it
@@ -83,10 +85,12 @@ module _ (x : Folded) (k : ℕ) (far : 64 ≤ k) where
   pub scale-over : {r : Folded} → r .low ≡ 0 → x .over ≡ true → r .over ≡ true → r ≡ foldOf (foldedValue x * 2 ^ k)
   scale-over e t f =
       let some : 0 < foldedValue x * 2 ^ (k - 64) = mul-pos (rw t (omega arith)) (pow-pos (k - 64)) in
-      fold-words (foldedValue x * 2 ^ k) (foldedValue x * 2 ^ (k - 64)) (rw e (far-words (foldedValue x) k far)) (omega arith) (f ∙ sym (lt-ltb 0 (foldedValue x * 2 ^ (k - 64)) some))
+      fold-words (foldedValue x * 2 ^ k) (foldedValue x * 2 ^ (k - 64)) (rw e (far-words (foldedValue x) k far)) (omega arith)
+      (f ∙ sym (lt-ltb 0 (foldedValue x * 2 ^ (k - 64)) some))
 
   pub scale-under : {r : Folded} → r .low ≡ 0 → x .over ≡ false → r .over ≡ ltb 0 (x .low) → r ≡ foldOf (foldedValue x * 2 ^ k)
-  scale-under e t f = fold-words (foldedValue x * 2 ^ k) (foldedValue x * 2 ^ (k - 64)) (rw e (far-words (foldedValue x) k far)) (omega arith) (f ∙ go (decLe 1 (x .low)))
+  scale-under e t f =
+      fold-words (foldedValue x * 2 ^ k) (foldedValue x * 2 ^ (k - 64)) (rw e (far-words (foldedValue x) k far)) (omega arith) (f ∙ go (decLe 1 (x .low)))
     where
       same : foldedValue x ≡ x .low
       same = rw t (omega arith)
@@ -102,7 +106,8 @@ module _ (x : Folded) (k : ℕ) (far : 64 ≤ k) where
 -- ---- what is folded stands for the number: the same number, or both are past 2^64 and differ by a whole number of it
 pub fold-same : (m n t : ℕ) → 2 ^ 64 ≤ n → m ≡ t * 2 ^ 64 + n → foldOf m ≡ foldOf n
 unfolding foldOf
-fold-same m n t h e = folded n (ap (λ (k : ℕ). k % 2 ^ 64) e ∙ mul-add-mod-self-right t (2 ^ 64) n) (le-leb (2 ^ 64) m (omega arith) ∙ sym (le-leb (2 ^ 64) n h))
+fold-same m n t h e =
+    folded n (ap (λ (k : ℕ). k % 2 ^ 64) e ∙ mul-add-mod-self-right t (2 ^ 64) n) (le-leb (2 ^ 64) m (omega arith) ∙ sym (le-leb (2 ^ 64) n h))
 
 pub value-small : (m : ℕ) → m < 2 ^ 64 → foldedValue (foldOf m) ≡ m
 unfolding foldOf

@@ -1,4 +1,5 @@
-// The digits of a text, walked by a position: the bytes from the first digit to the last, without `_` and the point between them.
+// The digits of a text, walked by a position: the bytes from the first digit to the
+// last, without `_` and the point between them.
 ghost use mathlib.Core.Path.{_≡_};
 ghost use Prim.Native.Nat.{_<_, _≤_};
 ghost use lib.ListN.{length};

@@ -1,5 +1,5 @@
-// A number of any size, folded into one word: what it is modulo 2^64, and whether it is past that. No format needs more of it.
-// body.rt walks the digits of a text and folds them. Inner functions of the readers.
+// A number of any size, folded into one word: what it is modulo 2^64, and whether it is past that. No format needs more
+// of it. body.rt walks the digits of a text and folds them. Inner functions of the readers.
 ghost use mathlib.Core.Path.{_≡_};
 ghost use Prim.Native.Nat.{_+_, _*_, _^_, _<_};
 ghost use Rattle.wide.specs.Meaning.{valueOf as wideOf};
@@ -90,7 +90,8 @@ pub fn scaled(x: Folded, k: u64) -> Folded
     }
 }
 
-// The number or the next, by how the fraction that was cut off compares with one half. The number's own last bit decides a tie.
+// The number or the next, by how the fraction that was cut off compares with one
+// half. The number's own last bit decides a tie.
 pub fn rounded(x: Folded, how: Order) -> Folded
     ensures { λ r. ⌜ r ≡ foldOf (roundBy how (foldedValue x)) ⌝ }
 {

@@ -6,7 +6,8 @@ use mathlib.Core.List.{List, [], _∷_, map}
 use Prim.Native.Nat.{ℕ}
 use lib.IntN.{ℤ, pos, negℤ}
 use Rattle.format.specs.declared.Manner.the-variants.{Strict, Saturating, Wrapping, Overflowing}
-use Rattle.format.specs.Meaning.{signed, unsigned, isWidth, faultOf, lowest, highest, fits, hold, wrap, settle, withSign, unless, Outcome, done, refused, guarded}
+use Rattle.format.specs.Meaning.{signed, unsigned, isWidth, faultOf, lowest, highest, fits, hold}
+use Rattle.format.specs.Meaning.{wrap, settle, withSign, unless, Outcome, done, refused, guarded}
 
 -- what comes out, with the flag clear: a raw, or one below 0
 abbrev raw : ℕ → Outcome

@@ -1,5 +1,5 @@
--- What a format is, which raws it has, and what becomes of an exact number in each manner: document 01, "Domain and numbers".
--- Assumes nothing.
+-- What a format is, which raws it has, and what becomes of an exact number in each manner:
+-- document 01, "Domain and numbers". Assumes nothing.
 use mathlib.Core.Bool.{Bool, true, false, cond, not, _&&_, _||_}
 use Prim.Native.Nat.{ℕ, _-_, _*_, _+_, _^_}
 use lib.Dec.{leb, eqb}
@@ -58,7 +58,8 @@ settle Saturating s w x = done (hold s w x) false
 settle Wrapping s w x = done (wrap s w x) false
 settle Overflowing s w x = done (wrap s w x) (not (fits s w x))
 
--- A refusal, where there is one (0 for none), goes before what is done: of a call that leaves more than an answer, and of an outcome.
+-- A refusal, where there is one (0 for none), goes before what is done: of a call that
+-- leaves more than an answer, and of an outcome.
 unfoldable pub guarded : {A : Type 0} → ℕ → (ℕ → A) → A → A
 guarded fault refusal result = cond (eqb fault 0) result (refusal fault)
 

@@ -20,7 +20,8 @@ use Rattle.laws.specs.Powers.{power-sub}
 use Rattle.laws.specs.Ring.{*ℤ-distribʳ}
 use Rattle.laws.specs.Signed.{signed as kit}
 use Rattle.format.specs.Meaning.{Sign, signed, unsigned, fits, hold, wrap, withSign}
-use Rattle.format.specs.Theorems.{InRange, Congruent, limit, lowest-out, highest-out, limit-span, in-fits, unfit-iff, hold-low, hold-high, hold-id, wrap-in, wrap-only, wrap-congruent}
+use Rattle.format.specs.Theorems.{InRange, Congruent, limit, lowest-out, highest-out, limit-span, in-fits}
+use Rattle.format.specs.Theorems.{unfit-iff, hold-low, hold-high, hold-id, wrap-in, wrap-only, wrap-congruent}
 
 pub sign-out : (neg : Bool) (m : ℕ) → (up (withSign neg m) ≡ cond neg 0 m) × (dn (withSign neg m) ≡ cond neg m 0)
 unfolding withSign
@@ -87,7 +88,10 @@ module _ (high low w : ℕ) (some : 0 < w) (word : w ≤ 64) where
       let k = pos (high * 2 ^ (64 - w) + low / 2 ^ w) in
       let r = low % 2 ^ w in
       wrap-only unsigned w some (withSign false (high * 2 ^ 64 + low))
-      (record { low = omega (kit, lowest-out unsigned w); high = omega (kit, highest-out unsigned w, limit-span unsigned w some, limit-unsigned w, mod-lt low (pow-pos w)) })
+      (record {
+        low = omega (kit, lowest-out unsigned w);
+        high = omega (kit, highest-out unsigned w, limit-span unsigned w some, limit-unsigned w, mod-lt low (pow-pos w));
+      })
       (record { turns = k; differ = omega (kit, split, sign-out false (high * 2 ^ 64 + low), mul-out k (2 ^ w), add-out (pos r) (k *ℤ pos (2 ^ w))) })
   residue-wraps true = go (eqb (low % 2 ^ w) 0) refl
     where
@@ -99,14 +103,28 @@ module _ (high low w : ℕ) (some : 0 < w) (word : w ≤ 64) where
           (record { low = omega (kit, lowest-out unsigned w); high = omega (kit, highest-out unsigned w) })
           (record {
             turns = k;
-            differ = omega (kit, split, eqb-true (low % 2 ^ w) 0 e, sign-out true (high * 2 ^ 64 + low), ap (λ (v : ℕ). v * 2 ^ w) (up-neg (pos n)), ap (λ (v : ℕ). v * 2 ^ w) (dn-neg (pos n)), mul-out k (2 ^ w), add-out (pos 0) (k *ℤ pos (2 ^ w)));
+            differ =
+                omega (
+                  kit,
+                  split,
+                  eqb-true (low % 2 ^ w) 0 e,
+                  sign-out true (high * 2 ^ 64 + low),
+                  ap (λ (v : ℕ). v * 2 ^ w) (up-neg (pos n)),
+                  ap
+                      (λ (v : ℕ). v * 2 ^ w) (dn-neg (pos n)),
+                  mul-out k (2 ^ w),
+                  add-out (pos 0) (k *ℤ pos (2 ^ w)),
+                );
           })
       go false e =
           let n = high * 2 ^ (64 - w) + low / 2 ^ w in
           let k = negsuc n in
           let r = 2 ^ w - low % 2 ^ w in
           wrap-only unsigned w some (withSign true (high * 2 ^ 64 + low))
-          (record { low = omega (kit, lowest-out unsigned w); high = omega (kit, highest-out unsigned w, limit-span unsigned w some, limit-unsigned w, eqb-false (low % 2 ^ w) 0 e) })
+          (record {
+            low = omega (kit, lowest-out unsigned w);
+            high = omega (kit, highest-out unsigned w, limit-span unsigned w some, limit-unsigned w, eqb-false (low % 2 ^ w) 0 e);
+          })
           (record {
             turns = k;
             differ = omega (kit, split, mod-lt low (pow-pos w), sign-out true (high * 2 ^ 64 + low), mul-out k (2 ^ w), add-out (pos r) (k *ℤ pos (2 ^ w)));
@@ -139,7 +157,10 @@ resigned-wraps w u x some e = go (ltb u (2 ^ (w - 1))) refl
         let k = far .turns in
         let v = negsuc (2 ^ w - 1 - u) in
         wrap-only signed w some x
-        (record { low = omega (kit, lowest-out signed w, ltb-false u (2 ^ (w - 1)) t, limit-signed w, pow-pos (w - 1), limit-span signed w some); high = omega (kit, highest-out signed w) })
+        (record {
+          low = omega (kit, lowest-out signed w, ltb-false u (2 ^ (w - 1)) t, limit-signed w, pow-pos (w - 1), limit-span signed w some);
+          high = omega (kit, highest-out signed w);
+        })
         (record {
           turns = k +ℤ pos 1;
           differ = omega (

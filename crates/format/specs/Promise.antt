@@ -7,7 +7,8 @@ use Rattle.laws.specs.Unique.{unique}
 use Rattle.format.specs.declared.Manner.{Manner}
 use Rattle.format.specs.declared.SignedAnswer.{SignedAnswer}
 use Rattle.format.specs.declared.UnsignedAnswer.{UnsignedAnswer}
-use Rattle.format.specs.Meaning.{signed, unsigned, isWidth, faultOf, unless, settle, exact, signedAnswer, unsignedAnswer}
+use Rattle.format.specs.Meaning.{signed, unsigned, isWidth, faultOf, unless}
+use Rattle.format.specs.Meaning.{settle, exact, signedAnswer, unsignedAnswer}
 
 abbrev pub IsWidth : ℕ → Bool → Type 0
 IsWidth w r = r ≡ isWidth w
@@ -23,7 +24,8 @@ abbrev pub SettleSigned : Bool → ℕ → ℕ → ℕ → ℕ → Manner → Si
 SettleSigned neg high low w f k r = r ≡ signedAnswer (unless (faultOf w f) (settle k signed w (exact neg high low)))
 
 abbrev pub SettleUnsigned : Bool → ℕ → ℕ → ℕ → ℕ → Manner → UnsignedAnswer → Type 0
-SettleUnsigned neg high low w f k r = r ≡ unsignedAnswer (unless (faultOf w f) (settle k unsigned w (exact neg high low)))
+SettleUnsigned neg high low w f k r =
+    r ≡ unsignedAnswer (unless (faultOf w f) (settle k unsigned w (exact neg high low)))
 
 pub is-width-unique : (w : ℕ) (r s : Bool) → IsWidth w r → IsWidth w s → r ≡ s
 is-width-unique w r s p q = unique p q
@@ -35,8 +37,10 @@ pub magnitude-unique : (x : ℤ) (r s : ℕ) → Magnitude x r → Magnitude x s
 magnitude-unique x r s p q = unique p q
 
 module _ (neg : Bool) (high low w f : ℕ) (k : Manner) where
-  pub settle-signed-unique : (r s : SignedAnswer) → SettleSigned neg high low w f k r → SettleSigned neg high low w f k s → r ≡ s
+  pub settle-signed-unique : (r s : SignedAnswer) → SettleSigned neg high low w f k r
+      → SettleSigned neg high low w f k s → r ≡ s
   settle-signed-unique r s p q = unique p q
 
-  pub settle-unsigned-unique : (r s : UnsignedAnswer) → SettleUnsigned neg high low w f k r → SettleUnsigned neg high low w f k s → r ≡ s
+  pub settle-unsigned-unique : (r s : UnsignedAnswer) → SettleUnsigned neg high low w f k r
+      → SettleUnsigned neg high low w f k s → r ≡ s
   settle-unsigned-unique r s p q = unique p q

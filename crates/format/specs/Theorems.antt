@@ -107,7 +107,18 @@ module _ (s : Sign) (w : ℕ) (some : 0 < w) (x : ℤ) where
       let far = k *ℤ pos m in
       let base : IsFloor (y -ℤ lowest s w) m (pos 0) = record {
         low = omega (kit, r .low, sub-out y (lowest s w), mul-out (pos 0) m);
-        high = omega (kit, r .high, sub-out y (lowest s w), mul-out (pos 0) m, add-out (pos 0 *ℤ pos m) (pos m), lowest-out s w, highest-out s w, limit-span s w some);
+        high =
+            omega (
+              kit,
+              r .high,
+              sub-out y (lowest s w),
+              mul-out (pos 0) m,
+              add-out (pos 0 *ℤ pos m) (pos m),
+              lowest-out s w,
+              highest-out s w,
+              limit-span s w
+                  some,
+            );
       } in
       let moved : x -ℤ lowest s w ≡ (y -ℤ lowest s w) +ℤ far =
       omega (kit, c .differ, add-out y far, sub-out x (lowest s w), sub-out y (lowest s w), add-out (y -ℤ lowest s w) far) in
@@ -159,8 +170,10 @@ module _ (s : Sign) (w : ℕ) (x : ℤ) where
   pub hold-nearest : (y : ℤ) → InRange s w y → natAbs (x -ℤ hold s w x) ≤ natAbs (x -ℤ y)
   hold-nearest y r =
       sides (λ (h : ℤ). natAbs (x -ℤ h) ≤ natAbs (x -ℤ y))
-      (λ h. abs-in (x -ℤ lowest s w) (omega (kit, r .low, sub-out x (lowest s w), sub-out x y, abs-out (x -ℤ y))) (omega (kit, r .low, sub-out x (lowest s w), sub-out x y, abs-out (x -ℤ y))))
-      (λ h. abs-in (x -ℤ highest s w) (omega (kit, r .high, sub-out x (highest s w), sub-out x y, abs-out (x -ℤ y))) (omega (kit, r .high, sub-out x (highest s w), sub-out x y, abs-out (x -ℤ y))))
+      (λ h. abs-in (x -ℤ lowest s w) (omega (kit, r .low, sub-out x (lowest s w), sub-out x y, abs-out (x -ℤ y)))
+      (omega (kit, r .low, sub-out x (lowest s w), sub-out x y, abs-out (x -ℤ y))))
+      (λ h. abs-in (x -ℤ highest s w) (omega (kit, r .high, sub-out x (highest s w), sub-out x y, abs-out (x -ℤ y)))
+      (omega (kit, r .high, sub-out x (highest s w), sub-out x y, abs-out (x -ℤ y))))
       (λ h. abs-in (x -ℤ x) (omega (kit, sub-out x x)) (omega (kit, sub-out x x)))
 
 -- ---- the manners

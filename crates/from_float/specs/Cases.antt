@@ -107,5 +107,6 @@ table =
 
 module _ where
   each : map got table ≡ map told table
-  unfolding got told isWidth faultOf guarded lowest highest fits hold wrap settle withSign nearestEven nearestBy ofFields patternValue rawOfSteps infinity ofValue
+  unfolding got told isWidth faultOf guarded lowest highest fits hold wrap settle withSign nearestEven nearestBy ofFields patternValue rawOfSteps infinity
+      ofValue
   each = refl

@@ -1,5 +1,5 @@
--- From a pattern to a format: document 01, module 5, "To and from f32 and f64 patterns, carried as u32 and u64 integers: nearest, ties to even".
--- (What a pattern stands for is said by `float`.) Assumes nothing.
+-- From a pattern to a format: document 01, module 5, "To and from f32 and f64 patterns, carried as u32 and u64
+-- integers: nearest, ties to even". (What a pattern stands for is said by `float`.) Assumes nothing.
 use mathlib.Core.Bool.{Bool, false, cond}
 use Prim.Native.Nat.{ℕ}
 use Rattle.format.specs.declared.Manner.{Manner}

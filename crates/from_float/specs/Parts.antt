@@ -33,7 +33,8 @@ unfoldable pub wholeFault : Binary → Manner → ℕ → ℕ → ℕ → ℕ
 wholeFault b k w f x = cond (eqb (faultOf w f) 0) (patternFault b k x) (faultOf w f)
 
 -- ---- this is the meaning
-infinite-as : (b : Binary) (k : Manner) (s : Sign) (w : ℕ) (neg : Bool) → isWidth w ≡ true → infinity k s w neg ≡ unless (infiniteFault k) (settle k s w (withSign neg (2 ^ 64)))
+infinite-as : (b : Binary) (k : Manner) (s : Sign) (w : ℕ) (neg : Bool) → isWidth w ≡ true
+    → infinity k s w neg ≡ unless (infiniteFault k) (settle k s w (withSign neg (2 ^ 64)))
 unfolding infinity infiniteFault guarded settle
 infinite-as b Strict s w neg h = refl
 infinite-as b Saturating s w neg h = ap (λ (z : ℤ). done z false) (sym (far-end s w neg (2 ^ 64) (width-bounds w h .1) (omega arith)))
@@ -63,7 +64,8 @@ module _ (b : Binary) (k : Manner) (s : Sign) (w f x : ℕ) where
           unless-none (faultOf w f) (ofValue b k s w f (patternValue b x)) z ∙ value-as (fault-free w f z .0)
       go false e =
           let z = eqb-false (faultOf w f) 0 e in
-          unless-fault (faultOf w f) (ofValue b k s w f (patternValue b x)) z ∙ sym (unless-fault (faultOf w f) (settle k s w (withSign (negative b x) (magnitudeOf b f x))) z)
+          unless-fault (faultOf w f) (ofValue b k s w f (patternValue b x)) z
+          ∙ sym (unless-fault (faultOf w f) (settle k s w (withSign (negative b x) (magnitudeOf b f x))) z)
 
 -- ---- what no refusal tells of the format
 none-before : (b : Binary) (k : Manner) (w f x : ℕ) → wholeFault b k w f x ≡ 0 → faultOf w f ≡ 0
@@ -94,7 +96,8 @@ module _ (b : Binary) (k : Manner) (w f x : ℕ) {fault : ℕ} (e : fault ≡ wh
 
   pub from-refused : (s : Sign) → (fault ≡ 0 → ⊥) → fromFloatOf b k s w f x ≡ refused fault
   from-refused s h =
-      from-as b k s w f x ∙ unless-fault (wholeFault b k w f x) (settle k s w (withSign (negative b x) (magnitudeOf b f x))) (λ z. h (e ∙ z)) ∙ ap refused (sym e)
+      from-as b k s w f x ∙ unless-fault (wholeFault b k w f x) (settle k s w (withSign (negative b x) (magnitudeOf b f x))) (λ z. h (e ∙ z))
+      ∙ ap refused (sym e)
 
 -- ---- the format's refusal, and then the pattern's
 module _ (b : Binary) (k : Manner) (w f x : ℕ) {n : ℕ} (e : n ≡ faultOf w f) where

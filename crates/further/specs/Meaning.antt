@@ -1,5 +1,6 @@
--- More arithmetic on raws, one line an operation, for both signs: the documentation of src/wrapping.rs. The refusals, then the exact result in the
--- manner. A step is 2^-F. An operand is the number that it is, also where the format could not hold it. Assumes nothing.
+-- More arithmetic on raws, one line an operation, for both signs: the documentation of src/wrapping.rs. The
+-- refusals, then the exact result in the manner. A step is 2^-F. An operand is the number that it is, also where
+-- the format could not hold it. Assumes nothing.
 use Prim.Native.Nat.{ℕ, _^_}
 use lib.IntN.{ℤ, pos, natAbs, _+ℤ_, _-ℤ_, _*ℤ_}
 use Rattle.laws.specs.Floor.{floor}

@@ -1,5 +1,6 @@
 // More arithmetic in a signed format.
-ghost use Rattle.further.specs.Promise.{SignedAbs, SignedSignum, SignedRemEuclid, SignedDivEuclid, SignedMulAdd, SignedDist, SignedMean};
+ghost use Rattle.further.specs.Promise.{SignedAbs, SignedSignum, SignedRemEuclid};
+ghost use Rattle.further.specs.Promise.{SignedDivEuclid, SignedMulAdd, SignedDist, SignedMean};
 use arith::refusal;
 use format::Manner;
 use format::SignedAnswer;

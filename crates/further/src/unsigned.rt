@@ -1,5 +1,6 @@
 // More arithmetic in an unsigned format.
-ghost use Rattle.further.specs.Promise.{UnsignedAbs, UnsignedSignum, UnsignedRemEuclid, UnsignedDivEuclid, UnsignedMulAdd, UnsignedDist, UnsignedMean};
+ghost use Rattle.further.specs.Promise.{UnsignedAbs, UnsignedSignum, UnsignedRemEuclid};
+ghost use Rattle.further.specs.Promise.{UnsignedDivEuclid, UnsignedMulAdd, UnsignedDist, UnsignedMean};
 use arith::refusal;
 use format::Manner;
 use format::UnsignedAnswer;

@@ -9,8 +9,11 @@ use lib.Dec.{T, leb, eqb, leb→le}
 use lib.ListN.{length, length-append, getD}
 use borrow.Author.Tests.{leb-true, ltb-true, eqb-true}
 use Rattle.format.specs.Meaning.{Sign}
-use Rattle.grammar.specs.Meaning.{digitOf, isSign, isMark, Written, Reading, number, unread, expLimit, prefixMark, prefixRadix, afterPrefix, literalMinus, literalBody, literalRadix, isBitMark, isRadix, blank, withDigit}
-use Rattle.grammar.specs.Automaton.{Sep, Skip, Error, isDigit, baseOf, Part, whole, fraction, exponent, Seen, nothing, sign, digit, Scan, at, refuse, onExpDigit, step, scan, ended, finish, plainScan, literalScan, onSign, onPoint, invalid, onUnderscore, onMark, onOther, readingOf}
+use Rattle.grammar.specs.Meaning.{digitOf, isSign, isMark, Written, Reading, number, unread, expLimit, prefixMark, prefixRadix}
+use Rattle.grammar.specs.Meaning.{afterPrefix, literalMinus, literalBody, literalRadix, isBitMark, isRadix, blank, withDigit}
+use Rattle.grammar.specs.Automaton.{Sep, Skip, Error, isDigit, baseOf, Part, whole, fraction, exponent, Seen, nothing}
+use Rattle.grammar.specs.Automaton.{sign, digit, Scan, at, refuse, onExpDigit, step, scan, ended, finish, plainScan}
+use Rattle.grammar.specs.Automaton.{literalScan, onSign, onPoint, invalid, onUnderscore, onMark, onOther, readingOf}
 
 -- the exponent: 0 until a digit of it was read, then within its range
 unfoldable pub ExpIs : Part → Seen → Bool → ℕ → Type 0
@@ -114,8 +117,20 @@ module _ (radix : ℕ) where
 
   on-mark : (b : ℕ) (p : Part) (q : Seen) (x : Written) → isMark radix b ≡ true → Sound radix p q x → Ends radix (onMark (baseOf radix b) p x)
   unfolding onMark ExpIs BaseIs
-  on-mark b whole q x m s = ends-at (record { below = s .below; within = s .within; base-is = by-test (λ (v : ℕ). (v ≡ 2) ⊎ (v ≡ radix)) (isBitMark b) (λ t. inl refl) (λ t. inr refl); exp-is = s .exp-is; ten-is = λ r. ten-base radix b r m })
-  on-mark b fraction q x m s = ends-at (record { below = s .below; within = s .within; base-is = by-test (λ (v : ℕ). (v ≡ 2) ⊎ (v ≡ radix)) (isBitMark b) (λ t. inl refl) (λ t. inr refl); exp-is = s .exp-is; ten-is = λ r. ten-base radix b r m })
+  on-mark b whole q x m s = ends-at (record {
+    below = s .below;
+    within = s .within;
+    base-is = by-test (λ (v : ℕ). (v ≡ 2) ⊎ (v ≡ radix)) (isBitMark b) (λ t. inl refl) (λ t. inr refl);
+    exp-is = s .exp-is;
+    ten-is = λ r. ten-base radix b r m;
+  })
+  on-mark b fraction q x m s = ends-at (record {
+    below = s .below;
+    within = s .within;
+    base-is = by-test (λ (v : ℕ). (v ≡ 2) ⊎ (v ≡ radix)) (isBitMark b) (λ t. inl refl) (λ t. inr refl);
+    exp-is = s .exp-is;
+    ten-is = λ r. ten-base radix b r m;
+  })
   on-mark b exponent q x m s = stop 18 tt tt
 
   on-exp-digit : (d : ℕ) (q : Seen) (x : Written) → Sound radix exponent q x → Ends radix (onExpDigit d x)
@@ -127,8 +142,12 @@ module _ (radix : ℕ) where
 
   on-other : (b : ℕ) (p : Part) (q : Seen) (x : Written) → Sound radix p q x → Ends radix (onOther radix b p x)
   unfolding onOther ExpIs
-  on-other b whole q x s = by-test (Ends radix) (isDigit radix b) (λ t. ends-at (sound-digit whole x (digitOf b) 0 q (ltb-true _ _ t) (omega arith) s (s .exp-is))) (λ t. on-invalid whole)
-  on-other b fraction q x s = by-test (Ends radix) (isDigit radix b) (λ t. ends-at (sound-digit fraction x (digitOf b) 1 q (ltb-true _ _ t) (omega arith) s (s .exp-is))) (λ t. on-invalid fraction)
+  on-other b whole q x s =
+      by-test (Ends radix) (isDigit radix b) (λ t. ends-at (sound-digit whole x (digitOf b) 0 q (ltb-true _ _ t) (omega arith) s (s .exp-is)))
+      (λ t. on-invalid whole)
+  on-other b fraction q x s =
+      by-test (Ends radix) (isDigit radix b) (λ t. ends-at (sound-digit fraction x (digitOf b) 1 q (ltb-true _ _ t) (omega arith) s (s .exp-is)))
+      (λ t. on-invalid fraction)
   on-other b exponent q x s = by-test (Ends radix) (isDigit 10 b) (λ t. on-exp-digit (digitOf b) q x s) (λ t. on-invalid exponent)
 
   on-byte : (k : Sep) (b : ℕ) (p : Part) (q : Seen) (x : Written) → Sound radix p q x → Ends radix (step k radix b p q x)
@@ -220,7 +239,8 @@ unfolding isRadix prefixRadix prefixMark
 prefix-legal t =
     let P : ℕ → Type 0 = λ r. isRadix r ≡ true in
     let b = getD t 1 0 in
-    by-test P (eqb (getD t 0 0) 48) (λ _. by-test P (eqb b 98) (λ _. refl) (λ _. by-test P (eqb b 111) (λ _. refl) (λ _. by-test P (eqb b 120) (λ _. refl) (λ _. refl)))) (λ _. refl)
+    by-test P (eqb (getD t 0 0) 48) (λ _. by-test P (eqb b 98) (λ _. refl) (λ _. by-test P (eqb b 111) (λ _. refl)
+    (λ _. by-test P (eqb b 120) (λ _. refl) (λ _. refl)))) (λ _. refl)
 
 pub sound-bases : {radix : ℕ} {p : Part} {q : Seen} {x : Written} → Sound radix p q x → (x .base ≡ 1) ⊎ (x .base ≡ 2) ⊎ (x .base ≡ radix)
 unfolding BaseIs

@@ -9,14 +9,16 @@ use borrow.Author.Tests.{eqb-true}
 use Rattle.format.specs.declared.Manner.{Manner}
 use Rattle.format.specs.declared.Manner.the-variants.{Strict}
 use Rattle.format.specs.Meaning.{Sign, Outcome, refused, unless, faultOf}
-use Rattle.grammar.specs.Meaning.{digitOf, isSign, isMark, Written, Reading, number, unread, expLimit, atEnd, afterSign, exponentFrom, digitsFrom, plainReading, blank, withDigit, withExp}
+use Rattle.grammar.specs.Meaning.{digitOf, isSign, isMark, Written, Reading, number, unread, expLimit, atEnd}
+use Rattle.grammar.specs.Meaning.{afterSign, exponentFrom, digitsFrom, plainReading, blank, withDigit, withExp}
 use Rattle.grammar.specs.Meaning.{literalMinus, literalBody, afterPrefix, literalRadix, literalReading, outcomeOf, isRadix, textLimit, readOf, literalOf}
 use Rattle.grammar.specs.Automaton.{isDigit, baseOf, whole, fraction, exponent, Seen, nothing, digit, Scan, at, refuse, Sep, Skip, Error}
 use Rattle.grammar.specs.Automaton.{onSign, onPoint, onUnderscore, onMark, onExpDigit, onOther, plainScan, literalScan, readingOf, readScan}
 use Rattle.grammar.specs.Accepted.{Says, ends-says, plain-ends, literal-ends}
 use Rattle.grammar.specs.Class.{classOf}
 use Rattle.grammar.specs.Run.{sepOf, partOf}
-use Rattle.grammar.specs.Reading.{reading, onClass, read-next, read-refused, read-end, opened, signFirst, read-unsigned, read-sign, read-exponent-unsigned, read-exponent-sign}
+use Rattle.grammar.specs.Reading.{reading, onClass, read-next, read-refused, read-end, opened, signFirst}
+use Rattle.grammar.specs.Reading.{read-unsigned, read-sign, read-exponent-unsigned, read-exponent-sign}
 use Rattle.grammar.specs.Reading.{expSeen, expAt, expEnd, read-exp-end}
 use Rattle.grammar.specs.declared.byte.Class.the-variants.{Sign as SignByte, Point, Underscore, Mark, Other}
 
@@ -70,7 +72,8 @@ module _ (skip : Bool) (radix : ℕ) where
     exp-sign-agrees minus true = sym (read-refused k radix t 12)
     exp-sign-agrees minus false = sym (read-refused k radix t 12)
 
-    under-agrees : (skip seen : Bool) {o : Reading} → o ≡ reading (sepOf skip) radix t (expAt seen x e) → underscore skip seen 16 o ≡ reading (sepOf skip) radix t (onUnderscore (sepOf skip) exponent (expSeen seen) here)
+    under-agrees : (skip seen : Bool) {o : Reading} → o ≡ reading (sepOf skip) radix t (expAt seen x e)
+        → underscore skip seen 16 o ≡ reading (sepOf skip) radix t (onUnderscore (sepOf skip) exponent (expSeen seen) here)
     unfolding onUnderscore
     under-agrees true true same = same
     under-agrees true false same = sym (read-refused Skip radix t 14)
@@ -94,7 +97,8 @@ module _ (skip : Bool) (radix : ℕ) where
         → cond (isSign b) (unread 12) (cond (eqb b 95) (underscore skip seen 16 o) (cond (isMark radix b) (unread 18) (onExpByte v)))
         ≡ reading k radix (b ∷ t) (expAt seen x e)
     unfolding classOf onClass onPoint onMark
-    byte-agrees seen {o} {v} same more = go (isSign b) (eqb b 46) (eqb b 95) (isMark radix b) refl refl refl ∙ sym (read-next k radix b t exponent (expSeen seen) here)
+    byte-agrees seen {o} {v} same more =
+        go (isSign b) (eqb b 46) (eqb b 95) (isMark radix b) refl refl refl ∙ sym (read-next k radix b t exponent (expSeen seen) here)
       where
         go : (s d u m : Bool) → eqb b 46 ≡ d → eqb b 95 ≡ u → isMark radix b ≡ m
             → cond s (unread 12) (cond u (underscore skip seen 16 o) (cond m (unread 18) (onExpByte v)))
@@ -107,7 +111,8 @@ module _ (skip : Bool) (radix : ℕ) where
         go false false false true p q r = sym (read-refused k radix t 18)
         go false false false false p q r = digit-agrees more
 
-  exponent-agrees : (x : Written) (e : ℕ) (seen : Bool) (t : List ℕ) → exponentFrom skip radix (withExp x (x .down) e) seen t ≡ reading k radix t (expAt seen x e)
+  exponent-agrees : (x : Written) (e : ℕ) (seen : Bool) (t : List ℕ)
+      → exponentFrom skip radix (withExp x (x .down) e) seen t ≡ reading k radix t (expAt seen x e)
   unfolding exponentFrom
   exponent-agrees x e seen [] = end-agrees x e seen
   exponent-agrees x e seen (b ∷ t) = byte-agrees b t x e seen (exponent-agrees x e seen t) (exponent-agrees x (e * 10 + digitOf b) true t)
@@ -121,12 +126,14 @@ module _ (skip : Bool) (radix : ℕ) where
     abbrev marked : Bool → Written
     marked down = record { neg = neg; digits = ds; after = after; base = base; down = down; exp = 0 }
 
-    mark-agrees : (t : List ℕ) → exponentFrom skip radix (marked (eqb (getD t 0 0) 45)) false (afterSign t) ≡ reading k radix t (at exponent nothing (marked false))
+    mark-agrees : (t : List ℕ) → exponentFrom skip radix (marked (eqb (getD t 0 0) 45)) false (afterSign t)
+        ≡ reading k radix t (at exponent nothing (marked false))
     unfolding signFirst
     mark-agrees [] = exponent-agrees (marked false) 0 false [] ∙ sym (read-exponent-unsigned k radix [] (marked false) refl)
     mark-agrees (c ∷ t) = go (isSign c) refl
       where
-        go : (s : Bool) → isSign c ≡ s → exponentFrom skip radix (marked (eqb c 45)) false (cond s t (c ∷ t)) ≡ reading k radix (c ∷ t) (at exponent nothing (marked false))
+        go : (s : Bool) → isSign c ≡ s → exponentFrom skip radix (marked (eqb c 45)) false (cond s t (c ∷ t)) ≡ reading k radix (c ∷ t)
+            (at exponent nothing (marked false))
         go true h = exponent-agrees (marked (eqb c 45)) 0 false t ∙ sym (read-exponent-sign k radix c t (marked false) h)
         go false h =
             ap (λ (d : Bool). exponentFrom skip radix (marked d) false (c ∷ t)) (or-right (eqb c 43) (eqb c 45) h)
@@ -165,7 +172,8 @@ module _ (skip : Bool) (radix : ℕ) where
     separator-agrees false true seen same = sym (read-refused Error radix t 13)
     separator-agrees false false seen same = sym (read-refused Error radix t 13)
 
-    marks-agrees : (base : ℕ) (point : Bool) → exponentFrom skip radix (marked neg ds after base (eqb (getD t 0 0) 45)) false (afterSign t) ≡ rest (onMark base (partOf point) x)
+    marks-agrees : (base : ℕ) (point : Bool)
+        → exponentFrom skip radix (marked neg ds after base (eqb (getD t 0 0) 45)) false (afterSign t) ≡ rest (onMark base (partOf point) x)
     unfolding onMark
     marks-agrees base true = mark-agrees neg ds after base t
     marks-agrees base false = mark-agrees neg ds after base t
@@ -194,7 +202,8 @@ module _ (skip : Bool) (radix : ℕ) where
         (cond (not (isDigit radix b)) (unread 13) v))))
         ≡ reading k radix (b ∷ t) (at (partOf point) (seenOf point seen) x)
     unfolding classOf onClass
-    digits-byte point seen {o} {p} {v} same past more = go (isSign b) (eqb b 46) (eqb b 95) (isMark radix b) ∙ sym (read-next k radix b t (partOf point) (seenOf point seen) x)
+    digits-byte point seen {o} {p} {v} same past more =
+        go (isSign b) (eqb b 46) (eqb b 95) (isMark radix b) ∙ sym (read-next k radix b t (partOf point) (seenOf point seen) x)
       where
         go : (s d u m : Bool) →
             cond s (unread 12)
@@ -202,7 +211,8 @@ module _ (skip : Bool) (radix : ℕ) where
             (cond u (underscore skip seen 13 o)
             (cond m (exponentFrom skip radix (marked neg ds after (baseOf radix b) (eqb (getD t 0 0) 45)) false (afterSign t))
             (cond (not (isDigit radix b)) (unread 13) v))))
-            ≡ rest (onClass (cond s SignByte (cond d Point (cond u Underscore (cond m (Mark (baseOf radix b)) Other)))) k radix b (partOf point) (seenOf point seen) x)
+            ≡ rest (onClass (cond s SignByte (cond d Point (cond u Underscore (cond m (Mark (baseOf radix b)) Other)))) k radix b (partOf point)
+            (seenOf point seen) x)
         go true d u m = sign-agrees (eqb b 45) point seen
         go false true u m = point-agrees point past
         go false false true m = separator-agrees skip point seen same
@@ -223,7 +233,8 @@ unfolding plainReading signFirst
 plain-agrees radix [] = digits-agrees false radix false [] 0 false false [] ∙ sym (read-unsigned Error radix [] (blank false) refl)
 plain-agrees radix (c ∷ t) = go (isSign c) refl
   where
-    go : (s : Bool) → isSign c ≡ s → digitsFrom false radix (blank (eqb c 45)) false false (cond s t (c ∷ t)) ≡ reading Error radix (c ∷ t) (at whole nothing (blank false))
+    go : (s : Bool) → isSign c ≡ s → digitsFrom false radix (blank (eqb c 45)) false false (cond s t (c ∷ t)) ≡ reading Error radix (c ∷ t)
+        (at whole nothing (blank false))
     go true h = digits-agrees false radix (eqb c 45) [] 0 false false t ∙ sym (read-sign Error radix c t h)
     go false h =
         ap (λ (n : Bool). digitsFrom false radix (blank n) false false (c ∷ t)) (or-right (eqb c 43) (eqb c 45) h)

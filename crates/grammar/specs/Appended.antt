@@ -10,7 +10,8 @@ use Rattle.laws.specs.Text.{zeros}
 use borrow.Author.Tests.{eqb-false, ne-eqb, lt-ltb}
 use Rattle.format.specs.declared.Manner.{Manner}
 use Rattle.format.specs.Meaning.{Sign, signed, unsigned, settle, withSign}
-use Rattle.grammar.specs.Meaning.{digitOf, isMark, Written, prefixMark, prefixRadix, dropUnderscores, afterPrefix, literalMinus, literalBody, rawOf, withDigit}
+use Rattle.grammar.specs.Meaning.{digitOf, isMark, Written, prefixMark, prefixRadix, dropUnderscores}
+use Rattle.grammar.specs.Meaning.{afterPrefix, literalMinus, literalBody, rawOf, withDigit}
 use Rattle.grammar.specs.Automaton.{Sep, fraction, Seen, digit, Scan, at, step, scan, ended, finish, readScan, onOther}
 use Rattle.grammar.specs.Accepted.{Ends, ends-sound, sound-base, finish-at, scan-append}
 use Rattle.grammar.specs.Literals.{short-prefix}

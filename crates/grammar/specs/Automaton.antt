@@ -7,7 +7,8 @@ use lib.Dec.{leb, ltb, eqb}
 use lib.ListN.{length}
 use Rattle.format.specs.declared.Manner.{Manner}
 use Rattle.format.specs.Meaning.{Sign, Outcome, refused, settle, withSign}
-use Rattle.grammar.specs.Meaning.{digitOf, isSign, isBitMark, isMark, Written, Reading, number, unread, expLimit, blank, withDigit, withBase, withExp, literalMinus, literalBody, afterPrefix, literalRadix, rawOf}
+use Rattle.grammar.specs.Meaning.{digitOf, isSign, isBitMark, isMark, Written, Reading, number, unread, expLimit, blank}
+use Rattle.grammar.specs.Meaning.{withDigit, withBase, withExp, literalMinus, literalBody, afterPrefix, literalRadix, rawOf}
 
 abbrev pub isDigit : ℕ → ℕ → Bool
 isDigit radix b = ltb (digitOf b) radix

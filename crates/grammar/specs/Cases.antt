@@ -14,8 +14,11 @@ use Rattle.format.specs.declared.Manner.{Manner}
 use Rattle.format.specs.declared.Manner.the-variants.{Strict, Saturating, Wrapping, Overflowing}
 use Rattle.format.specs.Meaning.{Sign, signed, unsigned, Outcome, done, refused, isWidth, faultOf, lowest, highest, fits, hold, wrap, settle, guarded}
 use Rattle.format.specs.Meaning.{withSign}
-use Rattle.grammar.specs.Meaning.{digitOf, isSign, isMark, Written, number as numberRead, exponentFrom, digitsFrom, plainReading, literalMinus, prefixMark, prefixRadix, dropUnderscores, literalReading, natFrom, num, den, rawOf, outcomeOf, isRadix, textLimit, readOf, literalOf}
-use Rattle.grammar.specs.Automaton.{isDigit, baseOf, onSign, onPoint, onUnderscore, onMark, onExpDigit, onOther, step, scan, ended, finish, plainScan, literalScan, readingOf, readScan}
+use Rattle.grammar.specs.Meaning.{digitOf, isSign, isMark, Written, number as numberRead, exponentFrom, digitsFrom}
+use Rattle.grammar.specs.Meaning.{plainReading, literalMinus, prefixMark, prefixRadix, dropUnderscores, literalReading}
+use Rattle.grammar.specs.Meaning.{natFrom, num, den, rawOf, outcomeOf, isRadix, textLimit, readOf, literalOf}
+use Rattle.grammar.specs.Automaton.{isDigit, baseOf, onSign, onPoint, onUnderscore, onMark, onExpDigit, onOther}
+use Rattle.grammar.specs.Automaton.{step, scan, ended, finish, plainScan, literalScan, readingOf, readScan}
 use Rattle.grammar.specs.Agrees.{plain-scanned, scanOf, literalScanOf, read-scan-of, literal-scan-of}
 use Rattle.grammar.specs.Rounding.{huge-over, huge-wraps, huge-under, nothing-written}
 use Rattle.grammar.specs.Theorems.{Taken, read-as, den-positive}
@@ -103,7 +106,8 @@ data Case : Type 0 where
   _gives_ : Asked → Outcome → Case
 
 answer : Asked → Outcome
-unfolding nearestEven nearestBy bytes isWidth faultOf lowest highest fits hold wrap settle guarded withSign digitOf isMark exponentFrom digitsFrom plainReading prefixMark prefixRadix dropUnderscores literalMinus literalReading natFrom num den rawOf outcomeOf isRadix readOf literalOf
+unfolding nearestEven nearestBy bytes isWidth faultOf lowest highest fits hold wrap settle guarded withSign digitOf isMark exponentFrom digitsFrom plainReading
+    prefixMark prefixRadix dropUnderscores literalMinus literalReading natFrom num den rawOf outcomeOf isRadix readOf literalOf
 answer (plain k s w f radix t) = readOf k s w f radix t
 answer (literally s w f t) = literalOf s w f t
 
@@ -119,7 +123,9 @@ Right rows = map got rows ≡ map want rows
 
 -- The automaton's answer is the same and takes fewer steps to compute. To unfold `computed` is to unfold all of it.
 computed : Asked → Outcome
-unfolding nearestEven nearestBy bytes isWidth faultOf lowest highest fits hold wrap settle guarded withSign digitOf isMark onSign onPoint onUnderscore onMark onExpDigit onOther step scan ended finish plainScan prefixMark prefixRadix dropUnderscores literalMinus literalScan natFrom num den rawOf readScan isRadix scanOf literalScanOf
+unfolding nearestEven nearestBy bytes isWidth faultOf lowest highest fits hold wrap settle guarded withSign digitOf isMark onSign onPoint onUnderscore onMark
+    onExpDigit onOther step scan ended finish plainScan prefixMark prefixRadix dropUnderscores literalMinus literalScan natFrom num den rawOf readScan isRadix
+    scanOf literalScanOf
 computed (plain k s w f radix t) = scanOf k s w f radix t
 computed (literally s w f t) = literalScanOf s w f t
 

@@ -48,7 +48,16 @@ module _ (b : ℕ) where
 
   pub digit-high : 102 < b → 16 ≡ digitOf b
   unfolding digitOf
-  digit-high h = simp (le-leb 48 b (omega arith), lt-leb b 57 (omega arith), le-leb 97 b (omega arith), lt-leb b 102 h, le-leb 65 b (omega arith), lt-leb b 70 (omega arith))
+  digit-high h =
+      simp (
+        le-leb 48 b (omega arith),
+        lt-leb b 57 (omega arith),
+        le-leb 97 b (omega arith),
+        lt-leb b 102 h,
+        le-leb 65 b (omega arith),
+        lt-leb b 70
+            (omega arith),
+      )
 
 -- `e` and `E`: the disjuncts after theirs are false
 module _ (radix b : ℕ) where

@@ -9,8 +9,10 @@ use lib.Dec.{eqb}
 use lib.ListN.{length, length-drop, drop, getD}
 use borrow.Author.Tests.{eqb-true, eqb-false, ne-eqb}
 use Rattle.format.specs.Meaning.{Sign, signed, unsigned}
-use Rattle.grammar.specs.Meaning.{isSign, Written, number, plainReading, literalReading, prefixMark, prefixRadix, dropUnderscores, afterPrefix, literalMinus, literalBody, literalRadix, blank}
-use Rattle.grammar.specs.Automaton.{Sep, Skip, Error, Part, whole, Seen, nothing, sign, digit, Scan, at, refuse, step, scan, finish, plainScan, literalScan, onSign, onUnderscore, readingOf}
+use Rattle.grammar.specs.Meaning.{isSign, Written, number, plainReading, literalReading, prefixMark, prefixRadix}
+use Rattle.grammar.specs.Meaning.{dropUnderscores, afterPrefix, literalMinus, literalBody, literalRadix, blank}
+use Rattle.grammar.specs.Automaton.{Sep, Skip, Error, Part, whole, Seen, nothing, sign, digit, Scan, at, refuse}
+use Rattle.grammar.specs.Automaton.{step, scan, finish, plainScan, literalScan, onSign, onUnderscore, readingOf}
 use Rattle.grammar.specs.Accepted.{finish-at, scan-refuse, number-at}
 use Rattle.grammar.specs.Agrees.{or-right, plain-scanned, literal-scanned}
 
@@ -104,7 +106,8 @@ misplaced k radix [] neg h = absurd (false≢true h)
 misplaced k radix (b ∷ t) neg h = ap (λ (y : Scan). finish (scan k radix t y)) (step-misplaced k radix b (blank neg) h) ∙ ap finish (scan-refuse k radix t 12)
 
 -- so a body that is taken starts with none
-pub body-opens : (k : Sep) (radix : ℕ) (t : List ℕ) (neg : Bool) {p : Part} {q : Seen} {x : Written} → body-scan k radix t neg ≡ at p q x → isSign (getD t 0 0) ≡ false
+pub body-opens : (k : Sep) (radix : ℕ) (t : List ℕ) (neg : Bool) {p : Part} {q : Seen} {x : Written} → body-scan k radix t neg ≡ at p q x
+    → isSign (getD t 0 0) ≡ false
 body-opens k radix t neg {p} {q} {x} e = go (isSign (getD t 0 0)) refl
   where
     go : (m : Bool) → isSign (getD t 0 0) ≡ m → m ≡ false
@@ -127,11 +130,13 @@ signedText neg t = cond neg (45 ∷ t) t
 abbrev pub plainText : Sign → List ℕ → List ℕ
 plainText s t = signedText (literalMinus s t) (bare (afterPrefix (literalBody s t)))
 
-body-plain : (radix : ℕ) (t : List ℕ) (neg : Bool) {p : Part} {q : Seen} {x : Written} → body-scan Error radix t neg ≡ at p q x → plainScan radix (signedText neg t) ≡ at p q x
+body-plain : (radix : ℕ) (t : List ℕ) (neg : Bool) {p : Part} {q : Seen} {x : Written} → body-scan Error radix t neg ≡ at p q x
+    → plainScan radix (signedText neg t) ≡ at p q x
 body-plain radix t true e = sym (signed-scan radix t) ∙ e
 body-plain radix t false e = sym (bare-scan-unsigned radix t (body-opens Error radix t false e)) ∙ e
 
-literal-bare : (s : Sign) (t : List ℕ) {p : Part} {q : Seen} {x : Written} → literalScan s t ≡ at p q x → plainScan (literalRadix s t) (plainText s t) ≡ at p q x
+literal-bare : (s : Sign) (t : List ℕ) {p : Part} {q : Seen} {x : Written} → literalScan s t ≡ at p q x
+    → plainScan (literalRadix s t) (plainText s t) ≡ at p q x
 unfolding literalScan
 literal-bare s t {p} {q} {x} e =
     let radix = literalRadix s t in

@@ -9,8 +9,10 @@ use native.Mathlib.Omega.{arith}
 use lib.Dec.{leb, eqb}
 use borrow.Author.Tests.{eqb-true, eqb-false}
 use Rattle.format.specs.Meaning.{Sign, signed, unsigned}
-use Rattle.grammar.specs.Meaning.{isSign, isMark, Written, number, expLimit, plainReading, literalMinus, literalBody, prefixMark, prefixRadix, dropUnderscores, afterPrefix, literalRadix, literalReading, digitOf, blank}
-use Rattle.grammar.specs.Automaton.{isDigit, baseOf, Part, whole, fraction, exponent, Seen, nothing, sign, digit, Scan, at, refuse, Sep, Skip, Error, onSign, onPoint, onUnderscore, onMark, onExpDigit, onOther, step, scan, finish, plainScan, literalScan, readingOf}
+use Rattle.grammar.specs.Meaning.{isSign, isMark, Written, number, expLimit, plainReading, literalMinus, literalBody, prefixMark}
+use Rattle.grammar.specs.Meaning.{prefixRadix, dropUnderscores, afterPrefix, literalRadix, literalReading, digitOf, blank}
+use Rattle.grammar.specs.Automaton.{isDigit, baseOf, Part, whole, fraction, exponent, Seen, nothing, sign, digit, Scan, at, refuse, Sep, Skip, Error}
+use Rattle.grammar.specs.Automaton.{onSign, onPoint, onUnderscore, onMark, onExpDigit, onOther, step, scan, finish, plainScan, literalScan, readingOf}
 use Rattle.grammar.specs.Accepted.{by-test, BaseIs, Sound, Ends, ends-sound, finish-at, number-at, plain-ends, literal-ends}
 use Rattle.grammar.specs.Agrees.{plain-scanned, literal-scanned}
 use Rattle.grammar.specs.Literals.{short-prefix, same-either}
@@ -118,7 +120,8 @@ module _ (k : Sep) (radix : ℕ) (two : 2 ≤ radix) (t : List ℕ) (start : Sca
       let sound = ends-sound (subst (Ends radix) (found .is) ends) in
       (found .seen, found .is ∙ ap (λ (p : Part). at p (found .seen) x) (fraction-is radix (found .part) (found .seen) x two there sound one))
 
-pub plain-fraction : (radix : ℕ) → 2 ≤ radix → (t : List ℕ) → List·Memᴰ 46 t → {x : Written} → plainReading radix t ≡ number x → x .base ≡ 1 → (q : Seen) × (plainScan radix t ≡ at fraction q x)
+pub plain-fraction : (radix : ℕ) → 2 ≤ radix → (t : List ℕ) → List·Memᴰ 46 t → {x : Written} → plainReading radix t ≡ number x → x .base ≡ 1
+    → (q : Seen) × (plainScan radix t ≡ at fraction q x)
 unfolding plainScan
 plain-fraction radix two t point e one =
     in-fraction Error radix two t (at whole nothing (blank false)) point (plain-ends radix t) (sym (plain-scanned radix t) ∙ e) one
@@ -140,7 +143,8 @@ unfolding dropUnderscores
 underscores-point [] m = m
 underscores-point (b ∷ t) m = go (eqb b 95) refl (List·Memᴰ·cases-cons m) (underscores-point t)
   where
-    go : (c : Bool) → eqb b 95 ≡ c → (46 ≡ b) ⊎ List·Memᴰ 46 t → (List·Memᴰ 46 t → List·Memᴰ 46 (dropUnderscores t)) → List·Memᴰ 46 (cond c (dropUnderscores t) (b ∷ t))
+    go : (c : Bool) → eqb b 95 ≡ c → (46 ≡ b) ⊎ List·Memᴰ 46 t → (List·Memᴰ 46 t → List·Memᴰ 46 (dropUnderscores t))
+        → List·Memᴰ 46 (cond c (dropUnderscores t) (b ∷ t))
     go true e (inl z) rest = absurd (omega (arith, eqb-true b 95 e))
     go true e (inr m) rest = rest m
     go false e h rest = m
@@ -170,7 +174,8 @@ prefix-point (a ∷ b ∷ t) m = go (eqb (prefixRadix (a ∷ b ∷ t)) 10) refl
     go true e = m
     go false e = underscores-point t (first e (List·Memᴰ·cases-cons m))
 
-pub literal-fraction : (s : Sign) (t : List ℕ) → 2 ≤ literalRadix s t → List·Memᴰ 46 t → {x : Written} → literalReading s t ≡ number x → x .base ≡ 1 → (q : Seen) × (literalScan s t ≡ at fraction q x)
+pub literal-fraction : (s : Sign) (t : List ℕ) → 2 ≤ literalRadix s t → List·Memᴰ 46 t → {x : Written} → literalReading s t ≡ number x → x .base ≡ 1
+    → (q : Seen) × (literalScan s t ≡ at fraction q x)
 unfolding literalScan
 literal-fraction s t two point e one =
     in-fraction Skip (literalRadix s t) two (afterPrefix (literalBody s t)) (at whole sign (blank (literalMinus s t)))

@@ -6,7 +6,8 @@ use Prim.Native.Nat.{ℕ}
 use lib.Dec.{eqb}
 use lib.ListN.{length}
 use Rattle.grammar.specs.Meaning.{isSign, isMark, Written, Reading, number, unread, blank, withExp}
-use Rattle.grammar.specs.Automaton.{baseOf, Part, whole, exponent, Seen, nothing, sign, digit, Scan, at, refuse, Sep, Skip, Error, step, scan, ended, finish, onSign, onPoint, onUnderscore, onMark, onOther, readingOf}
+use Rattle.grammar.specs.Automaton.{baseOf, Part, whole, exponent, Seen, nothing, sign, digit, Scan, at, refuse, Sep, Skip}
+use Rattle.grammar.specs.Automaton.{Error, step, scan, ended, finish, onSign, onPoint, onUnderscore, onMark, onOther, readingOf}
 use Rattle.grammar.specs.Class.{classOf}
 use Rattle.grammar.specs.Run.{partOf}
 use Rattle.grammar.specs.declared.byte.Class.{Class}
@@ -38,7 +39,8 @@ step-class k radix b p q x = go (isSign b) (eqb b 46) (eqb b 95) (isMark radix b
     go false false false false = refl
 
 -- one byte more; a refusal stays
-pub read-next : (k : Sep) (radix b : ℕ) (t : List ℕ) (p : Part) (q : Seen) (x : Written) → reading k radix (b ∷ t) (at p q x) ≡ reading k radix t (onClass (classOf radix b) k radix b p q x)
+pub read-next : (k : Sep) (radix b : ℕ) (t : List ℕ) (p : Part) (q : Seen) (x : Written)
+    → reading k radix (b ∷ t) (at p q x) ≡ reading k radix t (onClass (classOf radix b) k radix b p q x)
 unfolding reading scan
 read-next k radix b t p q x = ap (λ (s : Scan). readingOf (finish (scan k radix t s))) (step-class k radix b p q x)
 
@@ -54,7 +56,8 @@ opened false = sign
 opened true = nothing
 
 -- the end of the text before the mark
-pub read-end : (k : Sep) (radix : ℕ) (p : Bool) (q : Seen) (x : Written) → reading k radix [] (at (partOf p) q x) ≡ cond (eqb (length (x .digits)) 0) (unread 11) (number x)
+pub read-end : (k : Sep) (radix : ℕ) (p : Bool) (q : Seen) (x : Written)
+    → reading k radix [] (at (partOf p) q x) ≡ cond (eqb (length (x .digits)) 0) (unread 11) (number x)
 unfolding reading scan finish ended readingOf
 read-end k radix p q x = go (eqb (length (x .digits)) 0) p
   where
@@ -77,7 +80,8 @@ step-same : (k : Sep) (radix b : ℕ) (p : Part) (x : Written) → isSign b ≡ 
 unfolding step
 step-same k radix b p x e = rw (e, under-same k p x)
 
-pub read-unsigned : (k : Sep) (radix : ℕ) (t : List ℕ) (x : Written) → signFirst t ≡ false → reading k radix t (at whole nothing x) ≡ reading k radix t (at whole sign x)
+pub read-unsigned : (k : Sep) (radix : ℕ) (t : List ℕ) (x : Written) → signFirst t ≡ false
+    → reading k radix t (at whole nothing x) ≡ reading k radix t (at whole sign x)
 unfolding reading scan finish ended readingOf signFirst
 read-unsigned k radix [] x e = go (eqb (length (x .digits)) 0)
   where
@@ -86,17 +90,20 @@ read-unsigned k radix [] x e = go (eqb (length (x .digits)) 0)
     go false = refl
 read-unsigned k radix (b ∷ t) x e = ap (λ (s : Scan). readingOf (finish (scan k radix t s))) (step-same k radix b whole x e)
 
-pub read-exponent-unsigned : (k : Sep) (radix : ℕ) (t : List ℕ) (x : Written) → signFirst t ≡ false → reading k radix t (at exponent nothing x) ≡ reading k radix t (at exponent sign x)
+pub read-exponent-unsigned : (k : Sep) (radix : ℕ) (t : List ℕ) (x : Written) → signFirst t ≡ false
+    → reading k radix t (at exponent nothing x) ≡ reading k radix t (at exponent sign x)
 unfolding reading scan finish ended signFirst
 read-exponent-unsigned k radix [] x e = refl
 read-exponent-unsigned k radix (b ∷ t) x e = ap (λ (s : Scan). readingOf (finish (scan k radix t s))) (step-same k radix b exponent x e)
 
 -- and where it is a sign
-pub read-sign : (k : Sep) (radix b : ℕ) (t : List ℕ) → isSign b ≡ true → reading k radix (b ∷ t) (at whole nothing (blank false)) ≡ reading k radix t (at whole sign (blank (eqb b 45)))
+pub read-sign : (k : Sep) (radix b : ℕ) (t : List ℕ) → isSign b ≡ true
+    → reading k radix (b ∷ t) (at whole nothing (blank false)) ≡ reading k radix t (at whole sign (blank (eqb b 45)))
 unfolding reading scan step onSign
 read-sign k radix b t e = rw e
 
-pub read-exponent-sign : (k : Sep) (radix b : ℕ) (t : List ℕ) (x : Written) → isSign b ≡ true → reading k radix (b ∷ t) (at exponent nothing x) ≡ reading k radix t (at exponent sign (withExp x (eqb b 45) (x .exp)))
+pub read-exponent-sign : (k : Sep) (radix b : ℕ) (t : List ℕ) (x : Written) → isSign b ≡ true
+    → reading k radix (b ∷ t) (at exponent nothing x) ≡ reading k radix t (at exponent sign (withExp x (eqb b 45) (x .exp)))
 unfolding reading scan step onSign
 read-exponent-sign k radix b t x e = rw e
 
@@ -114,7 +121,8 @@ expEnd true seen x = unread 11
 expEnd false true x = number x
 expEnd false false x = unread 17
 
-pub read-exp-end : (k : Sep) (radix : ℕ) (seen : Bool) (x : Written) (e : ℕ) → reading k radix [] (expAt seen x e) ≡ expEnd (eqb (length (x .digits)) 0) seen (withExp x (x .down) e)
+pub read-exp-end : (k : Sep) (radix : ℕ) (seen : Bool) (x : Written) (e : ℕ)
+    → reading k radix [] (expAt seen x e) ≡ expEnd (eqb (length (x .digits)) 0) seen (withExp x (x .down) e)
 unfolding reading scan finish ended readingOf expEnd
 read-exp-end k radix seen x e = go (eqb (length (x .digits)) 0) seen
   where

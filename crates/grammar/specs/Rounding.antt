@@ -135,7 +135,8 @@ huge-over s w radix f x h r b t n l =
     let base : 2 ^ rest ≤ radix ^ rest = pow-le-pow-left r rest in
     let far : places * 2 ^ 64 ≤ places * radix ^ rest = mul-le-mul {n₁ = places} (omega arith) (omega arith) in
     let some : 1 * radix ^ x .exp ≤ natOf radix (x .digits) * radix ^ x .exp = mul-le-mul-right (radix ^ x .exp) n in
-    let step : natOf radix (x .digits) * radix ^ x .exp * 1 ≤ natOf radix (x .digits) * radix ^ x .exp * 2 ^ f = mul-le-mul-left (natOf radix (x .digits) * radix ^ x .exp) (pow-pos f) in
+    let step : natOf radix (x .digits) * radix ^ x .exp * 1 ≤ natOf radix (x .digits) * radix ^ x .exp * 2 ^ f = mul-le-mul-left
+    (natOf radix (x .digits) * radix ^ x .exp) (pow-pos f) in
     past-word s w radix f x h (den-pos radix x (omega arith) (omega arith)) (rw (t, b) (omega arith))
 
 -- and wrapping gives 0, since every radix is even
@@ -145,17 +146,36 @@ even-power h (suc k) = simp (pow-suc, even-power h k) (omega arith)
 
 whole-turns : (s : Sign) (w c : ℕ) (neg : Bool) → 0 < w → wrap s w (withSign neg (c * 2 ^ w)) ≡ pos 0
 whole-turns s w c neg h =
-    sym (wrap-only s w h (withSign neg (c * 2 ^ w)) (record { low = omega (kit, lowest-out s w); high = omega (kit, highest-out s w) }) (record { turns = withSign neg c; differ = go neg }))
+    sym (wrap-only s w h (withSign neg (c * 2 ^ w)) (record { low = omega (kit, lowest-out s w); high = omega (kit, highest-out s w) }) (record {
+      turns = withSign neg c;
+      differ = go neg;
+    }))
   where
     go : (neg : Bool) → withSign neg (c * 2 ^ w) ≡ pos 0 +ℤ withSign neg c *ℤ pos (2 ^ w)
     go true =
         let z = withSign true c in
         let o = sign-out true c in
-        omega (kit, sign-out true (c * 2 ^ w), mul-out z (2 ^ w), add-out (pos 0) (z *ℤ pos (2 ^ w)), ap (λ (v : ℕ). v * 2 ^ w) (o .0), ap (λ (v : ℕ). v * 2 ^ w) (o .1))
+        omega (
+          kit,
+          sign-out true (c * 2 ^ w),
+          mul-out z (2 ^ w),
+          add-out (pos 0) (z *ℤ pos (2 ^ w)),
+          ap (λ (v : ℕ). v * 2 ^ w) (o .0),
+          ap
+              (λ (v : ℕ). v * 2 ^ w) (o .1),
+        )
     go false =
         let z = withSign false c in
         let o = sign-out false c in
-        omega (kit, sign-out false (c * 2 ^ w), mul-out z (2 ^ w), add-out (pos 0) (z *ℤ pos (2 ^ w)), ap (λ (v : ℕ). v * 2 ^ w) (o .0), ap (λ (v : ℕ). v * 2 ^ w) (o .1))
+        omega (
+          kit,
+          sign-out false (c * 2 ^ w),
+          mul-out z (2 ^ w),
+          add-out (pos 0) (z *ℤ pos (2 ^ w)),
+          ap (λ (v : ℕ). v * 2 ^ w) (o .0),
+          ap
+              (λ (v : ℕ). v * 2 ^ w) (o .1),
+        )
 
 pub huge-wraps : (s : Sign) (w radix h f : ℕ) (x : Written) → 0 < w → 0 < h → radix ≡ h * 2 → x .base ≡ radix → x .down ≡ false
     → x .after + w ≤ x .exp → settle Wrapping s w (withSign (x .neg) (rawOf radix f x)) ≡ done (pos 0) false
@@ -169,5 +189,6 @@ huge-wraps s w radix h f x some k e b t l =
     let turns : radix ^ w ≡ h ^ w * 2 ^ w = ap (λ (r : ℕ). r ^ w) e ∙ even-power h w in
     let whole : natOf radix (x .digits) * radix ^ x .exp * 2 ^ f ≡ c * 2 ^ w * (places * 1) = rw (split, turns) (omega arith) in
     let exact : nearestEven (natOf radix (x .digits) * radix ^ x .exp * 2 ^ f) (places * 1) ≡ c * 2 ^ w =
-    ap (λ (n : ℕ). nearestEven n (places * 1)) whole ∙ nearest-exact (c * 2 ^ w) (places * 1) (mul-pos (one-le-pow (x .after) radix (omega arith)) (omega arith)) in
+    ap (λ (n : ℕ). nearestEven n (places * 1)) whole
+    ∙ nearest-exact (c * 2 ^ w) (places * 1) (mul-pos (one-le-pow (x .after) radix (omega arith)) (omega arith)) in
     rw (t, b, exact, whole-turns s w c (x .neg) some)

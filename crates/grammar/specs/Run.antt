@@ -73,11 +73,15 @@ no-digits true x = rw (append-nil (x .digits), add-zero (x .after))
 no-digits false x = rw (append-nil (x .digits), add-zero (x .after))
 
 one-digit : (p : Bool) (x : Written) (d : ℕ) (ds : List ℕ) → withDigits p (withDigit x d (cond p 1 0)) ds ≡ withDigits p x (d ∷ ds)
-one-digit true x d ds = rw (append-assoc (x .digits) (d ∷ []) ds) (ap (λ (n : ℕ). record { neg = x .neg; digits = x .digits ++ (d ∷ ds); after = n; base = x .base; down = x .down; exp = x .exp }) count)
+one-digit true x d ds =
+    rw (append-assoc (x .digits) (d ∷ []) ds)
+    (ap (λ (n : ℕ). record { neg = x .neg; digits = x .digits ++ (d ∷ ds); after = n; base = x .base; down = x .down; exp = x .exp }) count)
   where
     count : x .after + 1 + length ds ≡ x .after + length (d ∷ ds)
     count = omega arith
-one-digit false x d ds = rw (append-assoc (x .digits) (d ∷ []) ds) (ap (λ (n : ℕ). record { neg = x .neg; digits = x .digits ++ (d ∷ ds); after = n; base = x .base; down = x .down; exp = x .exp }) count)
+one-digit false x d ds =
+    rw (append-assoc (x .digits) (d ∷ []) ds)
+    (ap (λ (n : ℕ). record { neg = x .neg; digits = x .digits ++ (d ∷ ds); after = n; base = x .base; down = x .down; exp = x .exp }) count)
   where
     count : x .after + 0 + 0 ≡ x .after + 0
     count = omega arith
@@ -88,7 +92,8 @@ no-values p x = no-digits p x
 
 -- ---- the scan over a run
 module _ (skip : Bool) (radix : ℕ) (legal : isRadix radix ≡ true) where
-  digit-step : (p : Bool) (b : ℕ) (q : Seen) (x : Written) → isDigit radix b ≡ true → step (sepOf skip) radix b (partOf p) q x ≡ at (partOf p) digit (withDigit x (digitOf b) (cond p 1 0))
+  digit-step : (p : Bool) (b : ℕ) (q : Seen) (x : Written) → isDigit radix b ≡ true
+      → step (sepOf skip) radix b (partOf p) q x ≡ at (partOf p) digit (withDigit x (digitOf b) (cond p 1 0))
   unfolding step onOther
   digit-step false b q x h =
       let n = digit-plain radix b legal h in
@@ -113,7 +118,8 @@ module _ (skip : Bool) (radix : ℕ) (legal : isRadix radix ≡ true) where
   scan-more p (b ∷ t) x = go (isDigit radix b) (skip && eqb b 95) refl refl (λ y. scan-more p t y)
     where
       go : (d v : Bool) → isDigit radix b ≡ d → (skip && eqb b 95) ≡ v →
-          ((y : Written) → scan (sepOf skip) radix t (at (partOf p) digit y) ≡ scan (sepOf skip) radix (drop (runMore skip radix t) t) (at (partOf p) digit (withDigits p y (digitValues (take (runMore skip radix t) t))))) →
+          ((y : Written) → scan (sepOf skip) radix t (at (partOf p) digit y)
+          ≡ scan (sepOf skip) radix (drop (runMore skip radix t) t) (at (partOf p) digit (withDigits p y (digitValues (take (runMore skip radix t) t))))) →
           scan (sepOf skip) radix t (step (sepOf skip) radix b (partOf p) digit x)
           ≡ scan (sepOf skip) radix (drop (cond (d || v) (suc (runMore skip radix t)) 0) (b ∷ t))
           (at (partOf p) digit (withDigits p x (digitValues (take (cond (d || v) (suc (runMore skip radix t)) 0) (b ∷ t)))))
@@ -121,7 +127,8 @@ module _ (skip : Bool) (radix : ℕ) (legal : isRadix radix ≡ true) where
           ap (scan (sepOf skip) radix t) (digit-step p b digit x e)
           ∙ more (withDigit x (digitOf b) (cond p 1 0))
           ∙ ap (λ (y : Written). scan (sepOf skip) radix (drop (runMore skip radix t) t) (at (partOf p) digit y))
-          (one-digit p x (digitOf b) (digitValues (take (runMore skip radix t) t)) ∙ ap (withDigits p x) (sym (values-digit b (take (runMore skip radix t) t) (digit-plain radix b legal e .no-under))))
+          (one-digit p x (digitOf b) (digitValues (take (runMore skip radix t) t))
+          ∙ ap (withDigits p x) (sym (values-digit b (take (runMore skip radix t) t) (digit-plain radix b legal e .no-under))))
       go false true e f more =
           ap (scan (sepOf skip) radix t) (under-step p b x (both skip (eqb b 95) f .0) (eqb-true b 95 (both skip (eqb b 95) f .1)))
           ∙ more x
@@ -133,7 +140,8 @@ module _ (skip : Bool) (radix : ℕ) (legal : isRadix radix ≡ true) where
   pub scan-run :
       (p : Bool) (t : List ℕ) (q : Seen) (x : Written) →
       scan (sepOf skip) radix t (at (partOf p) q x)
-      ≡ scan (sepOf skip) radix (drop (runLen skip radix t) t) (at (partOf p) (seenAfter (runLen skip radix t) q) (withDigits p x (digitValues (take (runLen skip radix t) t))))
+      ≡ scan (sepOf skip) radix (drop (runLen skip radix t) t)
+      (at (partOf p) (seenAfter (runLen skip radix t) q) (withDigits p x (digitValues (take (runLen skip radix t) t))))
   unfolding runLen scan seenAfter
   scan-run p [] q x = ap (at (partOf p) q) (no-values p x)
   scan-run p (b ∷ t) q x = go (isDigit radix b) refl
@@ -141,10 +149,12 @@ module _ (skip : Bool) (radix : ℕ) (legal : isRadix radix ≡ true) where
       go : (d : Bool) → isDigit radix b ≡ d →
           scan (sepOf skip) radix t (step (sepOf skip) radix b (partOf p) q x)
           ≡ scan (sepOf skip) radix (drop (cond d (suc (runMore skip radix t)) 0) (b ∷ t))
-          (at (partOf p) (seenAfter (cond d (suc (runMore skip radix t)) 0) q) (withDigits p x (digitValues (take (cond d (suc (runMore skip radix t)) 0) (b ∷ t)))))
+          (at (partOf p) (seenAfter (cond d (suc (runMore skip radix t)) 0) q)
+          (withDigits p x (digitValues (take (cond d (suc (runMore skip radix t)) 0) (b ∷ t)))))
       go true e =
           ap (scan (sepOf skip) radix t) (digit-step p b q x e)
           ∙ scan-more p t (withDigit x (digitOf b) (cond p 1 0))
           ∙ ap (λ (y : Written). scan (sepOf skip) radix (drop (runMore skip radix t) t) (at (partOf p) digit y))
-          (one-digit p x (digitOf b) (digitValues (take (runMore skip radix t) t)) ∙ ap (withDigits p x) (sym (values-digit b (take (runMore skip radix t) t) (digit-plain radix b legal e .no-under))))
+          (one-digit p x (digitOf b) (digitValues (take (runMore skip radix t) t))
+          ∙ ap (withDigits p x) (sym (values-digit b (take (runMore skip radix t) t) (digit-plain radix b legal e .no-under))))
       go false e = ap (λ (y : Written). scan (sepOf skip) radix t (step (sepOf skip) radix b (partOf p) q y)) (no-values p x)

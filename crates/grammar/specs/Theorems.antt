@@ -26,7 +26,8 @@ use Rattle.format.specs.Theorems.{InRange, limit, in-fits, settle-fits, strict-
 use Rattle.format.specs.Fault.{fault-free, width-bounds}
 use Rattle.format.specs.Settle.{unless-none}
 use Rattle.format.specs.Place.{within, fits-place}
-use Rattle.grammar.specs.Meaning.{Written, Reading, number, plainReading, literalReading, outcomeOf, afterPrefix, literalMinus, literalBody, literalRadix, num, den, rawOf, textLimit, isRadix, readOf, literalOf, blank}
+use Rattle.grammar.specs.Meaning.{Written, Reading, number, plainReading, literalReading, outcomeOf, afterPrefix, literalMinus}
+use Rattle.grammar.specs.Meaning.{literalBody, literalRadix, num, den, rawOf, textLimit, isRadix, readOf, literalOf, blank}
 use Rattle.grammar.specs.Automaton.{Skip, Error, whole, nothing, sign, at, plainScan, literalScan, readScan}
 use Rattle.grammar.specs.Accepted.{Numbered, Says, says, says-not, says-numbered, plain-ends, literal-ends, radix-two, prefix-legal, sound-base}
 use Rattle.grammar.specs.Agrees.{plain-says, literal-says, scanOf, literalScanOf, read-scan-of, literal-scan-of}
@@ -120,7 +121,8 @@ module _ {s : Sign} {w f : ℕ} {t : List ℕ} {x : Written} (taken : TakenLiter
 
   pub literal-reads : literalOf s w f t ≡ readOf Strict s w f (literalRadix s t) (plainText s t)
   unfolding literalOf outcomeOf
-  literal-reads = unless-none (faultOf w f) _ (taken .format) ∙ rw (le-leb (length t) textLimit (taken .short), taken .scanned) (sym (read-as literal-taken Strict s))
+  literal-reads =
+      unless-none (faultOf w f) _ (taken .format) ∙ rw (le-leb (length t) textLimit (taken .short), taken .scanned) (sym (read-as literal-taken Strict s))
 
   module _ (m : ℕ) (near : Nearest (num (literalRadix s t) x * 2 ^ f) (den (literalRadix s t) x) m) where
     pub literal-nearest : InRange s w (withSign (x .neg) m) → literalOf s w f t ≡ done (withSign (x .neg) m) false
@@ -201,14 +203,16 @@ read-zeros k s w f radix t n {x} e point one h = read-scan-of k s w f radix (t +
     long = le-leb (length (t ++ zeros n)) textLimit (omega (arith, length-append t (zeros n), length-replicate {A = ℕ} n 48))
 
     go : (legal : Bool) → isRadix radix ≡ legal
-        → unless (faultOf w f) (cond legal (cond (leb (length (t ++ zeros n)) textLimit) (readScan k s w f radix (plainScan radix (t ++ zeros n))) (refused 4)) (refused 3))
+        → unless (faultOf w f) (cond legal (cond (leb (length (t ++ zeros n)) textLimit) (readScan k s w f radix (plainScan radix (t ++ zeros n))) (refused 4))
+        (refused 3))
         ≡ unless (faultOf w f) (cond legal (cond (leb (length t) textLimit) (readScan k s w f radix (plainScan radix t)) (refused 4)) (refused 3))
     go false l = refl
     go true l =
         let r = radix-two radix l in
         let found = plain-fraction radix r t point e one in
         rw (short, long)
-        (ap (unless (faultOf w f)) (zeros-same Error radix (omega arith) k s w f n (found .0) x t (at whole nothing (blank false)) (plain-ends radix t) (found .1)))
+        (ap (unless (faultOf w f)) (zeros-same Error radix (omega arith) k s w f n (found .0) x t (at whole nothing (blank false)) (plain-ends radix t)
+        (found .1)))
 
 pub literal-zeros : (s : Sign) (w f : ℕ) (t : List ℕ) (n : ℕ) {x : Written}
     → literalReading s t ≡ number x → List·Memᴰ 46 t → x .base ≡ 1 → length t + n ≤ textLimit → literalOf s w f (t ++ zeros n) ≡ literalOf s w f t
@@ -219,9 +223,11 @@ literal-zeros s w f t n {x} e point one h =
     let short = le-leb (length t) textLimit (omega arith) in
     let long = le-leb (length (t ++ zeros n)) textLimit (omega (arith, length-append t (zeros n), length-replicate {A = ℕ} n 48)) in
     let found = literal-fraction s t r point e one in
-    let same = zeros-same Skip radix (omega arith) Strict s w f n (found .0) x (afterPrefix (literalBody s t)) (at whole sign (blank (literalMinus s t))) (literal-ends s t) (found .1) in
+    let same = zeros-same Skip radix (omega arith) Strict s w f n (found .0) x (afterPrefix (literalBody s t)) (at whole sign (blank (literalMinus s t)))
+    (literal-ends s t) (found .1) in
     literal-scan-of s w f (t ++ zeros n)
-    ∙ rw (short, long) (ap (unless (faultOf w f)) (rw (body-zeros s t n, after-zeros (literalBody s t) n, prefix-zeros (literalBody s t) n, minus-zeros s t n) same))
+    ∙ rw (short, long) (ap (unless (faultOf w f))
+    (rw (body-zeros s t n, after-zeros (literalBody s t) n, prefix-zeros (literalBody s t) n, minus-zeros s t n) same))
     ∙ sym (literal-scan-of s w f t)
 
 -- ---- Only the number matters: two texts, of whatever radix, with the same sign and the same fraction read the same.

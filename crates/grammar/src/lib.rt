@@ -1,4 +1,5 @@
-// What a text means (docs/GRAMMAR.md): the radixes, the longest text, the classes of bytes, and the numbers of the refusals.
+// What a text means (docs/GRAMMAR.md): the radixes, the longest text, the
+// classes of bytes, and the numbers of the refusals.
 ghost use Rattle.grammar.specs.Promise.{IsRadix};
 
 pub mod byte;

@@ -21,7 +21,8 @@ head-fit n places h =
     (a .0, taps-few n (a .1))
 
 -- the test of the level is the test of the meaning
-pub test-way : (way : Way) (taps line : List ℤ) (y : ℤ) (t : Bool) → y ≡ levelOf taps line → take (length taps) line ≡ driving way taps → passes way y ≡ t → clipsWay way taps ≡ t
+pub test-way : (way : Way) (taps line : List ℤ) (y : ℤ) (t : Bool) → y ≡ levelOf taps line → take (length taps) line ≡ driving way taps → passes way y ≡ t
+    → clipsWay way taps ≡ t
 unfolding levelOf clipsWay
 test-way way taps line y t e d h =
     rw (← d, sum-take taps line) (rw e at h)

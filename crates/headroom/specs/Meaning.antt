@@ -1,5 +1,5 @@
--- The headroom check over lists of integers: document 01, module 8. It stands on the meaning of the filter: what the taps make of samples is its level.
--- Assumes nothing.
+-- The headroom check over lists of integers: document 01, module 8. It stands on the meaning of the filter: what the
+-- taps make of samples is its level. Assumes nothing.
 use mathlib.Core.Bool.{Bool, false, cond}
 use mathlib.Core.List.{List, map}
 use Prim.Native.Nat.{ℕ}
@@ -35,13 +35,15 @@ passes Low y = ltZ y (lowest signed 16)
 unfoldable pub clipsWay : Way → List ℤ → Bool
 clipsWay way taps = passes way (levelOf taps (driving way taps))
 
--- "Verdict 0: no samples clip. 1: some samples clip high; 2: none clip high, some clip low." (Theorems: `sound`, `complete`)
+-- "Verdict 0: no samples clip. 1: some samples clip high; 2: none clip high,
+-- some clip low." (Theorems: `sound`, `complete`)
 unfoldable pub verdictOf : List ℤ → ℕ
 verdictOf taps = cond (clipsWay High taps) 1 (cond (clipsWay Low taps) 2 0)
 
 -- "With 1 or 2 the lent sample buffer, of exactly n places, holds n samples"; "With 0 it is unchanged."
 unfoldable pub witnessOf : List ℤ → List ℤ → List ℤ
-witnessOf taps before = cond (clipsWay High taps) (driving High taps) (cond (clipsWay Low taps) (driving Low taps) before)
+witnessOf taps before =
+    cond (clipsWay High taps) (driving High taps) (cond (clipsWay Low taps) (driving Low taps) before)
 
 -- What is refused: "lists of unequal length" is 5, before what the filter refuses of the taps; 0 where nothing is.
 unfoldable pub headFault : ℕ → ℕ → ℕ

@@ -28,7 +28,8 @@ pub furthest : (way : Way) (taps h xs : List ℤ) → Samples h → Samples xs �
 unfolding runOf
 furthest way taps h xs s k = sum-within way taps (historyAfter h xs) (samples-after h xs s k)
 
-pub attained : (way : Way) (taps h : List ℤ) → length taps ≤ mostTaps → length h ≤ mostTaps → sumOf taps (runOf taps h (reverse (driving way taps)) .final) ≡ sumOf taps (driving way taps)
+pub attained : (way : Way) (taps h : List ℤ) → length taps ≤ mostTaps → length h ≤ mostTaps
+    → sumOf taps (runOf taps h (reverse (driving way taps)) .final) ≡ sumOf taps (driving way taps)
 unfolding runOf
 attained way taps h few k = fed taps (driving way taps) h (length-map taps (drivenOf way)) few k
 
@@ -44,7 +45,8 @@ sound taps h xs e s k = go (told taps)
     go (neither a b v) = quiet taps h xs a b s k
 
 -- COMPLETE. No samples make any output clip, from silence or from any one state: then the verdict is 0.
-pub complete : (taps h : List ℤ) → length taps ≤ mostTaps → length h ≤ mostTaps → ((xs : List ℤ) → Samples xs → clipped (runOf taps h xs .flags) ≡ 0) → verdictOf taps ≡ 0
+pub complete : (taps h : List ℤ) → length taps ≤ mostTaps → length h ≤ mostTaps → ((xs : List ℤ) → Samples xs → clipped (runOf taps h xs .flags) ≡ 0)
+    → verdictOf taps ≡ 0
 complete taps h few k all = go (told taps)
   where
     found : (way : Way) → clipsWay way taps ≡ true → ⊥
@@ -65,12 +67,14 @@ silence-samples = samples-zeros mostTaps
 pub verdict-0 : (taps : List ℤ) → length taps ≤ mostTaps → (verdictOf taps ≡ 0) ↔ ((xs : List ℤ) → Samples xs → clipped (runOf taps silence xs .flags) ≡ 0)
 verdict-0 taps few = (λ e xs k. sound taps silence xs e silence-samples k, λ all. complete taps silence few (omega arith) all)
 
-pub verdict-0-any : (taps h : List ℤ) → length taps ≤ mostTaps → length h ≤ mostTaps → Samples h → (verdictOf taps ≡ 0) ↔ ((xs : List ℤ) → Samples xs → clipped (runOf taps h xs .flags) ≡ 0)
+pub verdict-0-any : (taps h : List ℤ) → length taps ≤ mostTaps → length h ≤ mostTaps → Samples h
+    → (verdictOf taps ≡ 0) ↔ ((xs : List ℤ) → Samples xs → clipped (runOf taps h xs .flags) ≡ 0)
 verdict-0-any taps h few k s = (λ e xs t. sound taps h xs e s t, λ all. complete taps h few k all)
 
 -- Verdict 1: the witness, fed oldest first, makes the last output clip high. Verdict 2: no samples clip high, and the witness makes the last output
 -- clip low. Both from any state, silence among them; `before` is what the witness buffer held.
-pub verdict-1 : (taps h before : List ℤ) → length taps ≤ mostTaps → length h ≤ mostTaps → verdictOf taps ≡ 1 → Ends High (runOf taps h (reverse (witnessOf taps before)))
+pub verdict-1 : (taps h before : List ℤ) → length taps ≤ mostTaps → length h ≤ mostTaps → verdictOf taps ≡ 1
+    → Ends High (runOf taps h (reverse (witnessOf taps before)))
 verdict-1 taps h before few k e = go (told taps)
   where
     go : Told taps → Ends High (runOf taps h (reverse (witnessOf taps before)))
@@ -78,7 +82,8 @@ verdict-1 taps h before few k e = go (told taps)
     go (low a b v w) = absurd (omega arith)
     go (neither a b v) = absurd (omega arith)
 
-pub verdict-2 : (taps h before : List ℤ) → length taps ≤ mostTaps → length h ≤ mostTaps → verdictOf taps ≡ 2 → Ends Low (runOf taps h (reverse (witnessOf taps before)))
+pub verdict-2 : (taps h before : List ℤ) → length taps ≤ mostTaps → length h ≤ mostTaps → verdictOf taps ≡ 2
+    → Ends Low (runOf taps h (reverse (witnessOf taps before)))
 verdict-2 taps h before few k e = go (told taps)
   where
     go : Told taps → Ends Low (runOf taps h (reverse (witnessOf taps before)))
@@ -108,7 +113,8 @@ ends-low taps h xs s k end not-high = go (told taps)
     go (neither a b v) = absurd (spares Low taps h xs b s k end)
 
 -- either way, the witness makes an output clip
-pub witness-clips : (taps h before : List ℤ) → length taps ≤ mostTaps → length h ≤ mostTaps → (verdictOf taps ≡ 0 → ⊥) → 0 < clipped (runOf taps h (reverse (witnessOf taps before)) .flags)
+pub witness-clips : (taps h before : List ℤ) → length taps ≤ mostTaps → length h ≤ mostTaps → (verdictOf taps ≡ 0 → ⊥)
+    → 0 < clipped (runOf taps h (reverse (witnessOf taps before)) .flags)
 witness-clips taps h before few k some = go (told taps)
   where
     go : Told taps → 0 < clipped (runOf taps h (reverse (witnessOf taps before)) .flags)
@@ -126,14 +132,16 @@ not-refused e =
     let z : _≡_ {A = ℕ} 0 1 = cc in
     absurd (omega arith)
 
-head-done : (taps witness kept : List ℤ) (v : ℕ) → Heads taps witness (DoneU v false) kept → (length taps ≤ mostTaps) × ((v ≡ verdictOf taps) × (kept ≡ witnessOf taps witness))
+head-done : (taps witness kept : List ℤ) (v : ℕ) → Heads taps witness (DoneU v false) kept
+    → (length taps ≤ mostTaps) × ((v ≡ verdictOf taps) × (kept ≡ witnessOf taps witness))
 unfolding headroomOf
 head-done taps witness kept v p = pick (which _ _ _ p)
   where
     pick : ((headFault (length taps) (length witness) ≡ 0) × (headed (DoneU v false) kept ≡ headed (DoneU (verdictOf taps) false) (witnessOf taps witness)))
         ⊎ (headed (DoneU v false) kept ≡ headed (RefusedU (headFault (length taps) (length witness))) witness)
         → (length taps ≤ mostTaps) × ((v ≡ verdictOf taps) × (kept ≡ witnessOf taps witness))
-    pick (inl h) = (head-fit (length taps) (length witness) (h .0) .1, (same-value (ap (λ (r : Headed). r .answer) (h .1)), ap (λ (r : Headed). r .witness) (h .1)))
+    pick (inl h) =
+        (head-fit (length taps) (length witness) (h .0) .1, (same-value (ap (λ (r : Headed). r .answer) (h .1)), ap (λ (r : Headed). r .witness) (h .1)))
     pick (inr h) = not-refused (ap (λ (r : Headed). r .answer) h)
 
 run-done : (taps : List ℤ) (state state' : State) (samples outputs outputs' : List ℤ) (marks marks' : List ℕ) (n : ℕ)
@@ -141,8 +149,10 @@ run-done : (taps : List ℤ) (state state' : State) (samples outputs outputs' : 
 unfolding ranOf
 run-done taps state state' samples outputs outputs' marks marks' n p = pick (which _ _ _ p)
   where
-    pick : ((blockFault (length taps) (length samples) (length outputs) (length marks) ≡ 0) × (ran (DoneU n false) state' outputs' marks' ≡ ranDone (runOf taps (history state) samples)))
-        ⊎ (ran (DoneU n false) state' outputs' marks' ≡ ran (RefusedU (blockFault (length taps) (length samples) (length outputs) (length marks))) state outputs marks)
+    pick : ((blockFault (length taps) (length samples) (length outputs) (length marks) ≡ 0)
+        × (ran (DoneU n false) state' outputs' marks' ≡ ranDone (runOf taps (history state) samples)))
+        ⊎ (ran (DoneU n false) state' outputs' marks'
+        ≡ ran (RefusedU (blockFault (length taps) (length samples) (length outputs) (length marks))) state outputs marks)
         → n ≡ clipped (runOf taps (history state) samples .flags)
     pick (inl h) = same-value (ap (λ (r : Ran). r .answer) (h .1))
     pick (inr h) = not-refused (ap (λ (r : Ran). r .answer) h)

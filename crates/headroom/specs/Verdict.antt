@@ -51,7 +51,8 @@ unfolding clipsWay levelOf sumOf
 nothing-clips way c = zero-inside way (rw rounded-zero at c)
 
 -- the driving samples, fed oldest first from any state, end past the range where the test says so
-pub drives : (way : Way) (taps h : List ℤ) → length taps ≤ mostTaps → length h ≤ mostTaps → clipsWay way taps ≡ true → Ends way (runOf taps h (reverse (driving way taps)))
+pub drives : (way : Way) (taps h : List ℤ) → length taps ≤ mostTaps → length h ≤ mostTaps → clipsWay way taps ≡ true
+    → Ends way (runOf taps h (reverse (driving way taps)))
 unfolding clipsWay levelOf
 drives way [] h few k c = absurd (nothing-clips way c)
 drives way (t ∷ ts) h few k c =

@@ -1,4 +1,5 @@
-// What is refused before any work: 5 where the witness has not a place for each tap, then what the filter refuses of the taps; 0 for nothing.
+// What is refused before any work: 5 where the witness has not a place for each tap, then what
+// the filter refuses of the taps; 0 for nothing.
 ghost use mathlib.Core.Path.{_≡_};
 ghost use Rattle.headroom.specs.Meaning.{headFault};
 use filter::fault;

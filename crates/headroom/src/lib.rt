@@ -1,4 +1,5 @@
-// The headroom check (01, module 8): can any samples make these taps clip? Taps and samples are I1F15 raws; the newest sample stands first.
+// The headroom check (01, module 8): can any samples make these taps clip? Taps and samples
+// are I1F15 raws; the newest sample stands first.
 ghost use Rattle.headroom.specs.Promise.{Heads};
 
 mod fault;

@@ -40,7 +40,8 @@ fn driven(way: Way, tap: i16) -> i16
 // Those samples for each tap, in a line of the filter's.
 fn drive(way: Way, taps: &[i16]) -> [i16; TAPS]
     requires { ⌜ length (now taps) ≤ mostTaps ⌝ }
-    ensures { λ r. ⌜ (length r ≡ mostTaps) × (take (length (now (taps .entry))) r ≡ map (drivenOf way) (now (taps .entry))) ⌝ }
+    ensures { λ r. ⌜ (length r ≡ mostTaps)
+        × (take (length (now (taps .entry))) r ≡ map (drivenOf way) (now (taps .entry))) ⌝ }
 {
     let mut line = [0i16; TAPS];
     let mut i = 0;
@@ -70,7 +71,8 @@ fn keep(line: &[i16; TAPS], witness: &mut [i16])
 pub(crate) fn verdict(taps: &[i16], witness: &mut [i16]) -> u64
     requires { ⌜ length (now taps) ≤ mostTaps ⌝ }
     requires { ⌜ length (now witness) ≡ length (now taps) ⌝ }
-    ensures { λ r. ⌜ (r ≡ verdictOf (now (taps .entry))) × (now (witness .exit) ≡ witnessOf (now (taps .entry)) (now (witness .entry))) ⌝ }
+    ensures { λ r. ⌜ (r ≡ verdictOf (now (taps .entry)))
+        × (now (witness .exit) ≡ witnessOf (now (taps .entry)) (now (witness .entry))) ⌝ }
 {
     let high = drive(Way::High, taps);
     if 32767 < sum::level(taps, &high) {

@@ -68,7 +68,8 @@ shrZ-add z q m h =
     let sum = *ℤ-distribʳ p q (pos m) in
     let g : IsFloor (z +ℤ q *ℤ pos m) m (p +ℤ q) = record {
       low = omega (orders, f .low, add-out z (q *ℤ pos m), add-out (p *ℤ pos m) (q *ℤ pos m));
-      high = omega (orders, f .high, add-out z (q *ℤ pos m), add-out (p *ℤ pos m) (q *ℤ pos m), add-out (p *ℤ pos m) (pos m), add-out ((p +ℤ q) *ℤ pos m) (pos m));
+      high =
+          omega (orders, f .high, add-out z (q *ℤ pos m), add-out (p *ℤ pos m) (q *ℤ pos m), add-out (p *ℤ pos m) (pos m), add-out ((p +ℤ q) *ℤ pos m) (pos m));
     } in
     sym (floor-shrZ h g)
 

@@ -4,7 +4,8 @@
 use mathlib.Core.Path.{_≡_, subst}
 use mathlib.Core.Bool.{Bool, true, false, cond}
 use Prim.Native.Nat.{ℕ, zero, suc, _+_, _-_, _*_, _/_, _^_, _≤_, _<_}
-use native.Mathlib.Nat.{le-of-lt, pow-le-pow-right, add-sub-cancel, pow-suc, pow-zero, one-le-pow, mul-le-mul-left, mul-le-mul-right, le-div-iff-mul-le, div-lt-iff-lt-mul, mul-assoc}
+use native.Mathlib.Nat.{le-of-lt, pow-le-pow-right, add-sub-cancel, pow-suc, pow-zero, one-le-pow}
+use native.Mathlib.Nat.{mul-le-mul-left, mul-le-mul-right, le-div-iff-mul-le, div-lt-iff-lt-mul, mul-assoc}
 use native.Mathlib.Numerals.{add-one}
 use native.Mathlib.Decide.{decLe}
 use native.Mathlib.Omega.{arith}
@@ -91,8 +92,11 @@ module _ (x g : ℕ) (h : 0 < x) (f : x < 2 ^ 64) (r : Rounded (leadingZeros 64 
       let z = leadingZeros 64 x in
       let s = leading-top 64 x h f in
       let low : s .0 + z ≡ 63 = omega (arith, s .1) in
-      let high : suc (s .0) + z ≡ 64 = omega (arith, s .1) in
-      (subst (λ (n : ℕ). 2 ^ n ≤ x * 2 ^ z) low (rw pow-add (mul-le-mul-right (2 ^ z) (s .2))), subst (λ (n : ℕ). x * 2 ^ z < 2 ^ n) high (shl-lt (suc (s .0)) z (s .3)))
+      let high : suc (s .0) + z ≡ 64 = omega (arith, s .1) in (
+        subst (λ (n : ℕ). 2 ^ n ≤ x * 2 ^ z) low (rw pow-add (mul-le-mul-right (2 ^ z) (s .2))),
+        subst (λ (n : ℕ). x * 2 ^ z < 2 ^ n) high
+            (shl-lt (suc (s .0)) z (s .3)),
+      )
 
   -- its logarithm is -(g + 1) or -(g + 2)
   pub frac-least : x * 10 ^ (g + 1 - 1) < 2 ^ 64
@@ -106,7 +110,8 @@ module _ (x g : ℕ) (h : 0 < x) (f : x < 2 ^ 64) (r : Rounded (leadingZeros 64 
 
   -- g + 1 is in the table of limits
   pub frac-lt : g + 1 < 20
-  frac-lt = let l : g < 19 = exponent-lt g 19 (omega (arith, r .0, pow-mono {i = leadingZeros 64 x} {j = 63} (omega (arith, leading-top 64 x h f .1)))) in omega arith
+  frac-lt =
+      let l : g < 19 = exponent-lt g 19 (omega (arith, r .0, pow-mono {i = leadingZeros 64 x} {j = 63} (omega (arith, leading-top 64 x h f .1)))) in omega arith
 
 -- The comparison with L = (2^64 - 1) / 10^m: x ≤ L exactly if x 10^m is below 2^64.
 pub limit-in : (x m l : ℕ) → l ≡ (2 ^ 64 - 1) / 10 ^ m → x ≤ l → x * 10 ^ (m + 1 - 1) < 2 ^ 64

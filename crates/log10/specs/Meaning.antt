@@ -16,7 +16,8 @@ unfoldable pub downFrom : ℕ → ℕ → ℤ → ℕ → ℤ
 downFrom raw f k zero = k
 downFrom raw f k (suc n) = cond (reaches raw f k) k (downFrom raw f (predℤ k) n)
 
--- "The greatest k with 10^k <= value": from 19 down to -20, since no raw of 64 bits reaches 10^20, and 2^-64 reaches 10^-20
+-- "The greatest k with 10^k <= value": from 19 down to -20, since no raw of
+-- 64 bits reaches 10^20, and 2^-64 reaches 10^-20
 unfoldable pub log10Of : ℕ → ℕ → ℤ
 log10Of raw f = downFrom raw f (pos 19) 39
 

@@ -73,7 +73,8 @@ unfolding downFrom
 found raw f k zero e l = by-next raw f k l e
 found raw f k (suc n) e l = go (reaches raw f k) refl (λ h. found raw f (predℤ k) n (rw suc-pred h) l)
   where
-    go : (t : Bool) → reaches raw f k ≡ t → (reaches raw f k ≡ false → Greatest raw f (downFrom raw f (predℤ k) n)) → Greatest raw f (cond t k (downFrom raw f (predℤ k) n))
+    go : (t : Bool) → reaches raw f k ≡ t → (reaches raw f k ≡ false → Greatest raw f (downFrom raw f (predℤ k) n))
+        → Greatest raw f (cond t k (downFrom raw f (predℤ k) n))
     go true h more = by-next raw f k h e
     go false h more = more h
 
@@ -133,8 +134,11 @@ pub below-one : (w d raw : ℕ) → w ≤ 64 → 2 ^ w ≤ 10 ^ suc d → 0 < ra
 unfolding reaches
 below-one w d raw l p h b =
     let g = log10-greatest raw w h (omega (arith, pow-mono {i = w} {j = 64} l)) l in
-    let k = log10Of raw w in
-    (at-least raw w k (negsuc d) g (le-leb (2 ^ w) (raw * 10 ^ suc d) (omega (arith, mul-le-mul-right (10 ^ suc d) h))), at-most raw w k (negsuc 0) g (lt-leb (10 ^ 0 * 2 ^ w) raw (omega arith)))
+    let k = log10Of raw w in (
+      at-least raw w k (negsuc d) g (le-leb (2 ^ w) (raw * 10 ^ suc d) (omega (arith, mul-le-mul-right (10 ^ suc d) h))),
+      at-most raw w k (negsuc 0) g
+          (lt-leb (10 ^ 0 * 2 ^ w) raw (omega arith)),
+    )
 
 pub below-one-8 : (raw : ℕ) → 0 < raw → raw < 2 ^ 8 → (negsuc 2 ≤ℤ log10Of raw 8) × (log10Of raw 8 ≤ℤ negsuc 0)
 below-one-8 raw h b = below-one 8 2 raw (lit≤ tt) (lit≤ tt) h b

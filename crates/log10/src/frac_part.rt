@@ -4,8 +4,8 @@ ghost use Prim.Native.Nat.{_+_, _-_, _*_, _/_, _^_, _≤_, _<_};
 
 const MAX: u64 = 0xffff_ffff_ffff_ffff;
 
-// The least m with 10^-m <= x / 2^64, which is 1 or more: k is -m. The zero bits in front give a guess, which is right or
-// one too low.
+// The least m with 10^-m <= x / 2^64, which is 1 or more: k is -m. The zero bits in
+// front give a guess, which is right or one too low.
 pub(crate) fn frac_log10(x: u64) -> u32
     requires { ⌜ 0 < x ⌝ }
     ensures { λ r. ⌜ (0 < r) × (2 ^ 64 ≤ x * 10 ^ r) × (x * 10 ^ (r - 1) < 2 ^ 64) ⌝ }

@@ -1,5 +1,6 @@
-// The scanner for a program from outside: what a text is, and where its digits stand, before any number is made of them. It is no
-// part of the library's interface: oracle/scan links it to hold the scanner against the automaton of docs/GRAMMAR.md.
+// The scanner for a program from outside: what a text is, and where its digits stand, before any
+// number is made of them. It is no part of the library's interface: oracle/scan links it to hold the
+// scanner against the automaton of docs/GRAMMAR.md.
 use scan::Found;
 use scan::Parsed;
 

@@ -1,4 +1,5 @@
-// What the program `fit` prints of a fitting file: the taps and the verdict, or the refusal. The last line is `ok` or `refused`.
+// What the program `fit` prints of a fitting file: the taps and the verdict, or
+// the refusal. The last line is `ok` or `refused`.
 mod hint;
 mod out;
 mod refusal;

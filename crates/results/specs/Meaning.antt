@@ -1,4 +1,5 @@
--- The sign of a number, and Euclidean remainder and quotient of two: the documentation of src/wrapping.rs. Assumes nothing.
+-- The sign of a number, and Euclidean remainder and quotient of two: the
+-- documentation of src/wrapping.rs. Assumes nothing.
 use Prim.Native.Nat.{ℕ, suc, min}
 use lib.IntN.{ℤ, pos, negsuc, negℤ, natAbs, _-ℤ_}
 use Rattle.laws.specs.Floor.{floor}

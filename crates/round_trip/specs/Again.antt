@@ -61,7 +61,8 @@ module _ (raw : ℤ) (w f : ℕ) (out : List ℕ) {told : ℤ} {a : UnsignedAnsw
   refused-never : (s : Sign) (n : ℕ) → a ≡ RefusedU n → Fine s raw w f out → _≡_ {A = ℕ} 0 1
   unfolding writeOf put guarded unsignedAnswer
   refused-never s n e fine =
-      let clash : RefusedU n ≡ DoneU (length (rawText raw f)) false = sym e ∙ wrote .0 ∙ simp (eq-eqb (faultOf w f) 0 (fine .format), le-leb (length (rawText raw f)) (length out) (fine .room)) in
+      let clash : RefusedU n ≡ DoneU (length (rawText raw f)) false = sym e ∙ wrote .0
+      ∙ simp (eq-eqb (faultOf w f) 0 (fine .format), le-leb (length (rawText raw f)) (length out) (fine .room)) in
       cc
 
   pub never-refused : {n : ℕ} → a ≡ RefusedU n → SameSigned raw w f out (RefusedS n)
@@ -71,7 +72,8 @@ module _ (raw : ℤ) (w f : ℕ) (out : List ℕ) {told : ℤ} {a : UnsignedAnsw
 
 -- the same where no raw is negative
 module _ (raw w f : ℕ) (out : List ℕ) {a : UnsignedAnswer} {left : List ℕ} (p : WriteUnsigned raw w f out a left) where
-  pub read-again-unsigned : (k : Manner) {n : ℕ} {flag : Bool} {r : UnsignedAnswer} → a ≡ DoneU n flag → ReadBackUnsigned left n w f k r → SameUnsigned raw w f out r
+  pub read-again-unsigned : (k : Manner) {n : ℕ} {flag : Bool} {r : UnsignedAnswer} → a ≡ DoneU n flag → ReadBackUnsigned left n w f k r
+      → SameUnsigned raw w f out r
   unfolding unsignedAnswer
   read-again-unsigned k {n} {flag} e q fine = q ∙ ap unsignedAnswer (reads (pos raw) w f out refl p unsigned k n flag e (fine .holds))
 

@@ -1,4 +1,5 @@
-// Writing, then reading, gives the same raw: proved of the functions from their promises alone, for every format, raw and manner.
+// Writing, then reading, gives the same raw: proved of the functions from their
+// promises alone, for every format, raw and manner.
 mod signed;
 mod unsigned;
 

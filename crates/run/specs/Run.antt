@@ -58,7 +58,8 @@ module _ (skip : Bool) (radix : ℕ) (t : List ℕ) (i : ℕ) where
   unfolding runMore
   more-no h e = rw (drop-cons t i 0 h, e)
 
-  pub run-next : {w : ℕ} {g : Bool} → i < length t → g ≡ inRun skip radix (getD t i 0) → g ≡ true → i + runMore skip radix (drop i t) ≡ w → i + 1 + runMore skip radix (drop (i + 1) t) ≡ w
+  pub run-next : {w : ℕ} {g : Bool} → i < length t → g ≡ inRun skip radix (getD t i 0) → g ≡ true → i + runMore skip radix (drop i t) ≡ w
+      → i + 1 + runMore skip radix (drop (i + 1) t) ≡ w
   run-next h e g inv = omega (arith, more-yes h (sym e ∙ g))
 
   pub run-stop : {w : ℕ} {g : Bool} → i < length t → g ≡ inRun skip radix (getD t i 0) → g ≡ false → i + runMore skip radix (drop i t) ≡ w → i ≡ w
@@ -84,7 +85,8 @@ module _ (t : List ℕ) (from radix : ℕ) (skip : Bool) where
   len-past h = rw (drop-of-length-le t h)
 
   -- the code's record is the run
-  run-is : (to n : ℕ) → to ≡ from + runLen skip radix (drop from t) → n ≡ length (digitsOf (part t from to)) → _≡_ {A = Run} (record { from = from; to = to; digits = n }) (runAt t from radix skip)
+  run-is : (to n : ℕ) → to ≡ from + runLen skip radix (drop from t) → n ≡ length (digitsOf (part t from to))
+      → _≡_ {A = Run} (record { from = from; to = to; digits = n }) (runAt t from radix skip)
   unfolding runAt
   run-is to n e q =
       ap (λ (k : ℕ). record { from = from; to = to; digits = k }) q
@@ -101,7 +103,8 @@ module _ (t : List ℕ) (from radix : ℕ) (skip : Bool) where
       n ≡ length (digitsOf (part t from to)) → _≡_ {A = Run} (record { from = from; to = to; digits = n }) (runAt t from radix skip)
   run-some {to} {n} h e g q c = run-is to n (omega (arith, len-some h (sym e ∙ g))) c
 
-  pub run-none : {d : Bool} → from < length t → d ≡ isDigit radix (getD t from 0) → d ≡ false → _≡_ {A = Run} (record { from = from; to = from; digits = 0 }) (runAt t from radix skip)
+  pub run-none : {d : Bool} → from < length t → d ≡ isDigit radix (getD t from 0) → d ≡ false
+      → _≡_ {A = Run} (record { from = from; to = from; digits = 0 }) (runAt t from radix skip)
   run-none h e g = empty-run (len-none h (sym e ∙ g))
 
   pub run-past : length t ≤ from → _≡_ {A = Run} (record { from = from; to = from; digits = 0 }) (runAt t from radix skip)

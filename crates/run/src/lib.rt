@@ -1,4 +1,5 @@
-// A run of digits in a text: from its first digit to the byte in front of which it ends. An inner function of the scanner.
+// A run of digits in a text: from its first digit to the byte in front of
+// which it ends. An inner function of the scanner.
 ghost use mathlib.Core.Path.{_≡_};
 ghost use Prim.Native.Nat.{_+_, _≤_};
 ghost use lib.ListN.{length, drop};

@@ -6,7 +6,8 @@ use Prim.Native.Nat.{ℕ, zero, suc}
 use native.Mathlib.Omega.{arith}
 use lib.Dec.{eqb}
 use Rattle.grammar.specs.Meaning.{isSign, isMark, Written, Reading, unread, withBase}
-use Rattle.grammar.specs.Automaton.{isDigit, baseOf, whole, fraction, exponent, Seen, nothing, Scan, at, refuse, step, scan, onSign, onPoint, onUnderscore, onMark, onOther}
+use Rattle.grammar.specs.Automaton.{isDigit, baseOf, whole, fraction, exponent, Seen, nothing, Scan, at}
+use Rattle.grammar.specs.Automaton.{refuse, step, scan, onSign, onPoint, onUnderscore, onMark, onOther}
 use Rattle.grammar.specs.Class.{classOf}
 use Rattle.grammar.specs.Run.{sepOf, partOf, seenAfter}
 use Rattle.grammar.specs.Reading.{reading, onClass, read-next, read-refused, opened}
@@ -61,7 +62,8 @@ module _ (skip : Bool) (radix b : ℕ) (t : List ℕ) (x : Written) where
   sign-after minus true zero = refl
   sign-after minus true (suc n) = refl
 
-  under-after : (skip p : Bool) (n : ℕ) → Stopped skip n b → eqb b 95 ≡ true → onUnderscore (sepOf skip) (partOf p) (seenAfter n (opened p)) x ≡ refuse (underNumber skip)
+  under-after : (skip p : Bool) (n : ℕ) → Stopped skip n b → eqb b 95 ≡ true
+      → onUnderscore (sepOf skip) (partOf p) (seenAfter n (opened p)) x ≡ refuse (underNumber skip)
   unfolding onUnderscore seenAfter underNumber
   under-after false false n u e = refl
   under-after false true n u e = refl
@@ -94,7 +96,8 @@ module _ (skip : Bool) (radix b : ℕ) (t : List ℕ) (x : Written) where
       refusing : {s : Scan} (n : ℕ) → s ≡ refuse n → reading (sepOf skip) radix t s ≡ unread n
       refusing n e = ap (reading (sepOf skip) radix t) e ∙ read-refused (sepOf skip) radix t n
 
-      by : (c : Class) → classOf radix b ≡ c → reading (sepOf skip) radix t (onClass c (sepOf skip) radix b (partOf p) (seenAfter n (opened p)) x) ≡ afterRun c skip radix t x
+      by : (c : Class) → classOf radix b ≡ c
+          → reading (sepOf skip) radix t (onClass c (sepOf skip) radix b (partOf p) (seenAfter n (opened p)) x) ≡ afterRun c skip radix t x
       by Sign e = refusing 12 (sign-after (eqb b 45) p n)
       by Point e = refusing 15 (point-after p o (class-point radix b e))
       by Underscore e = refusing (underNumber skip) (under-after skip p n u (class-under radix b e))

@@ -109,21 +109,24 @@ module _ (p : Parsed) {g : Bool} (t : g ≡ noDigits p) where
   exp-end-bare e h s = rw (sym t ∙ h, s)
 
 -- ---- what the scan makes of the exponent's bytes, w what the whole comes to
-module _ (skip : Bool) (radix : ℕ) (t : List ℕ) (i : ℕ) (x : Written) (seen : Bool) (e : ℕ) {w : Reading} (inv : reading (sepOf skip) radix (drop i t) (expAt seen x e) ≡ w) where
+module _ (skip : Bool) (radix : ℕ) (t : List ℕ) (i : ℕ) (x : Written) (seen : Bool) (e : ℕ) {w : Reading}
+    (inv : reading (sepOf skip) radix (drop i t) (expAt seen x e) ≡ w) where
   exp-more : i < length t → reading (sepOf skip) radix (drop (i + 1) t) (expScan (expStepOf skip radix seen (x .down) e (getD t i 0)) x) ≡ w
   exp-more h =
       ap (λ (k : ℕ). reading (sepOf skip) radix (drop k t) (expScan (expStepOf skip radix seen (x .down) e (getD t i 0)) x)) (add-one i)
       ∙ sym (read-exp skip radix (getD t i 0) x e seen (drop (suc i) t))
       ∙ ap (λ (l : List ℕ). reading (sepOf skip) radix l (expAt seen x e)) (sym (drop-cons t i 0 h)) ∙ inv
 
-  pub exp-next : {s : ExpStep} {v : ℕ} → i < length t → s ≡ expStepOf skip radix seen (x .down) e (getD t i 0) → s ≡ On v → reading (sepOf skip) radix (drop (i + 1) t) (expAt true x v) ≡ w
+  pub exp-next : {s : ExpStep} {v : ℕ} → i < length t → s ≡ expStepOf skip radix seen (x .down) e (getD t i 0) → s ≡ On v
+      → reading (sepOf skip) radix (drop (i + 1) t) (expAt true x v) ≡ w
   unfolding expScan
   exp-next h q g = ap (λ (s : ExpStep). reading (sepOf skip) radix (drop (i + 1) t) (expScan s x)) (sym g ∙ q) ∙ exp-more h
 
   pub exp-stop : {s : ExpStep} {n : ℕ} → i < length t → s ≡ expStepOf skip radix seen (x .down) e (getD t i 0) → s ≡ Refuse n → Finds t (Refused n) w
   unfolding expScan
   exp-stop {n = n} h q g =
-      refuses (sym (exp-more h) ∙ ap (λ (s : ExpStep). reading (sepOf skip) radix (drop (i + 1) t) (expScan s x)) (sym q ∙ g) ∙ read-refused (sepOf skip) radix (drop (i + 1) t) n)
+      refuses (sym (exp-more h) ∙ ap (λ (s : ExpStep). reading (sepOf skip) radix (drop (i + 1) t) (expScan s x)) (sym q ∙ g)
+      ∙ read-refused (sepOf skip) radix (drop (i + 1) t) n)
 
   pub exp-over : length t ≤ i → w ≡ expEnd (eqb (length (x .digits)) 0) seen (withExp x (x .down) e)
   exp-over h = sym inv ∙ ap (λ (l : List ℕ). reading (sepOf skip) radix l (expAt seen x e)) (drop-of-length-le t h) ∙ read-exp-end (sepOf skip) radix seen x e
@@ -152,7 +155,8 @@ module _ (t : List ℕ) (p : Parsed) (ready : Ready t p) where
   ready-exp : (e : ℕ) → e ≤ 2147483648 → Ready t (withExponent p e)
   ready-exp e l = record { whole-counted = ready .whole-counted; frac-counted = ready .frac-counted; small = l; stretch = ready .stretch }
 
-  pub finds-unmarked : {r : Found} {w : Reading} → r ≡ unmarkedOf p → w ≡ cond (eqb (length (writtenOf t p .digits)) 0) (unread 11) (number (writtenOf t p)) → Finds t r w
+  pub finds-unmarked : {r : Found} {w : Reading} → r ≡ unmarkedOf p → w ≡ cond (eqb (length (writtenOf t p .digits)) 0) (unread 11) (number (writtenOf t p))
+      → Finds t r w
   unfolding unmarkedOf
   finds-unmarked {r} {w} q e = go (noDigits p) q (e ∙ ap (λ (g : Bool). cond g (unread 11) (number (writtenOf t p))) (sym no-digits-is))
     where
@@ -164,9 +168,11 @@ module _ (t : List ℕ) (p : Parsed) (ready : Ready t p) where
       {r : Found} {w : Reading} (seen : Bool) (e : ℕ) → e ≤ 2147483648 → r ≡ expEndOf p seen e →
       w ≡ expEnd (eqb (length (writtenOf t p .digits)) 0) seen (withExp (writtenOf t p) (writtenOf t p .down) e) → Finds t r w
   unfolding expEndOf expEnd
-  finds-exp-end {r} {w} seen e l q z = go (noDigits p) seen q (z ∙ ap (λ (g : Bool). expEnd g seen (withExp (writtenOf t p) (writtenOf t p .down) e)) (sym no-digits-is))
+  finds-exp-end {r} {w} seen e l q z =
+      go (noDigits p) seen q (z ∙ ap (λ (g : Bool). expEnd g seen (withExp (writtenOf t p) (writtenOf t p .down) e)) (sym no-digits-is))
     where
-      go : (g seen : Bool) → r ≡ cond g (Refused 11) (cond seen (Number (withExponent p e)) (Refused 17)) → w ≡ expEnd g seen (withExp (writtenOf t p) (writtenOf t p .down) e) → Finds t r w
+      go : (g seen : Bool) → r ≡ cond g (Refused 11) (cond seen (Number (withExponent p e)) (Refused 17))
+          → w ≡ expEnd g seen (withExp (writtenOf t p) (writtenOf t p .down) e) → Finds t r w
       go true seen q z = subst (λ (f : Found). Finds t f w) (sym q) (refuses z)
       go false true q z = subst (λ (f : Found). Finds t f w) (sym q) (finds (z ∙ exp-written e) (ready-exp e l))
       go false false q z = subst (λ (f : Found). Finds t f w) (sym q) (refuses z)
@@ -185,16 +191,27 @@ pub finds-by : (t : List ℕ) {r : Found} {y z : Reading} → y ≡ z → Finds 
 finds-by t {r} e f = subst (Finds t r) e f
 
 pub ready-down : (t : List ℕ) (p : Parsed) (d : Bool) {q : Parsed} → Ready t p → q ≡ withDown p d → Ready t q
-ready-down t p d h e = subst (Ready t) (sym e) (record { whole-counted = h .whole-counted; frac-counted = h .frac-counted; small = h .small; stretch = h .stretch })
+ready-down t p d h e = subst (Ready t) (sym e) (record {
+  whole-counted = h .whole-counted;
+  frac-counted = h .frac-counted;
+  small = h .small;
+  stretch = h .stretch;
+})
 
 pub ready-base : (t : List ℕ) (p : Parsed) (b : ℕ) {q : Parsed} → Ready t p → q ≡ withMarkBase p b → Ready t q
-ready-base t p b h e = subst (Ready t) (sym e) (record { whole-counted = h .whole-counted; frac-counted = h .frac-counted; small = h .small; stretch = h .stretch })
+ready-base t p b h e = subst (Ready t) (sym e) (record {
+  whole-counted = h .whole-counted;
+  frac-counted = h .frac-counted;
+  small = h .small;
+  stretch = h .stretch;
+})
 
 -- the sign of the exponent, at `from`, or none
 module _ (t : List ℕ) (from : ℕ) (skip : Bool) (radix : ℕ) (p : Parsed) where
   pub exp-signed :
       {q : Parsed} {r : Found} (d : Bool) → from < length t → isSign (getD t from 0) ≡ true → eqb (getD t from 0) 45 ≡ d → q ≡ withDown p d →
-      Finds t r (reading (sepOf skip) radix (drop (from + 1) t) (at exponent sign (writtenOf t q))) → Finds t r (reading (sepOf skip) radix (drop from t) (at exponent nothing (writtenOf t p)))
+      Finds t r (reading (sepOf skip) radix (drop (from + 1) t) (at exponent sign (writtenOf t q)))
+      → Finds t r (reading (sepOf skip) radix (drop from t) (at exponent nothing (writtenOf t p)))
   unfolding writtenOf
   exp-signed d h s m e f =
       finds-by t
@@ -206,24 +223,29 @@ module _ (t : List ℕ) (from : ℕ) (skip : Bool) (radix : ℕ) (p : Parsed) wh
 
   pub exp-minus :
       {q : Parsed} {r : Found} → from < length t → getD t from 0 ≡ 45 → q ≡ withDown p true →
-      Finds t r (reading (sepOf skip) radix (drop (from + 1) t) (at exponent sign (writtenOf t q))) → Finds t r (reading (sepOf skip) radix (drop from t) (at exponent nothing (writtenOf t p)))
+      Finds t r (reading (sepOf skip) radix (drop (from + 1) t) (at exponent sign (writtenOf t q)))
+      → Finds t r (reading (sepOf skip) radix (drop from t) (at exponent nothing (writtenOf t p)))
   exp-minus h b e f = exp-signed true h (rw b) (rw b) e f
 
   pub exp-plus :
       {q : Parsed} {r : Found} → from < length t → getD t from 0 ≡ 43 → q ≡ withDown p false →
-      Finds t r (reading (sepOf skip) radix (drop (from + 1) t) (at exponent sign (writtenOf t q))) → Finds t r (reading (sepOf skip) radix (drop from t) (at exponent nothing (writtenOf t p)))
+      Finds t r (reading (sepOf skip) radix (drop (from + 1) t) (at exponent sign (writtenOf t q)))
+      → Finds t r (reading (sepOf skip) radix (drop from t) (at exponent nothing (writtenOf t p)))
   exp-plus h b e f = exp-signed false h (rw b) (rw b) e f
 
-  unsigned : signFirst (drop from t) ≡ false → {r : Found} → Finds t r (reading (sepOf skip) radix (drop from t) (at exponent sign (writtenOf t p))) → Finds t r (reading (sepOf skip) radix (drop from t) (at exponent nothing (writtenOf t p)))
+  unsigned : signFirst (drop from t) ≡ false → {r : Found} → Finds t r (reading (sepOf skip) radix (drop from t) (at exponent sign (writtenOf t p)))
+      → Finds t r (reading (sepOf skip) radix (drop from t) (at exponent nothing (writtenOf t p)))
   unsigned h f = finds-by t (sym (read-exponent-unsigned (sepOf skip) radix (drop from t) (writtenOf t p) h)) f
 
   pub exp-bare :
       {r : Found} → from < length t → (getD t from 0 ≡ 43 → ⊥) → (getD t from 0 ≡ 45 → ⊥) →
-      Finds t r (reading (sepOf skip) radix (drop from t) (at exponent sign (writtenOf t p))) → Finds t r (reading (sepOf skip) radix (drop from t) (at exponent nothing (writtenOf t p)))
+      Finds t r (reading (sepOf skip) radix (drop from t) (at exponent sign (writtenOf t p)))
+      → Finds t r (reading (sepOf skip) radix (drop from t) (at exponent nothing (writtenOf t p)))
   exp-bare h a b f = unsigned (no-sign-at t from h a b) f
 
   pub exp-nothing :
-      {r : Found} → length t ≤ from → Finds t r (reading (sepOf skip) radix (drop from t) (at exponent sign (writtenOf t p))) → Finds t r (reading (sepOf skip) radix (drop from t) (at exponent nothing (writtenOf t p)))
+      {r : Found} → length t ≤ from → Finds t r (reading (sepOf skip) radix (drop from t) (at exponent sign (writtenOf t p)))
+      → Finds t r (reading (sepOf skip) radix (drop from t) (at exponent nothing (writtenOf t p)))
   exp-nothing h f = unsigned (no-sign-past t from h) f
 
 -- the class that a match found, and its refusals
@@ -246,9 +268,11 @@ module _ (t : List ℕ) (next : ℕ) (skip : Bool) (radix : ℕ) (p : Parsed) {c
 
   pub after-mark :
       {base : ℕ} {q : Parsed} {r : Found} → c ≡ Mark base → q ≡ withMarkBase p base →
-      Finds t r (reading (sepOf skip) radix (drop next t) (at exponent nothing (writtenOf t q))) → Finds t r (afterRun c skip radix (drop next t) (writtenOf t p))
+      Finds t r (reading (sepOf skip) radix (drop next t) (at exponent nothing (writtenOf t q)))
+      → Finds t r (afterRun c skip radix (drop next t) (writtenOf t p))
   unfolding afterRun writtenOf
   after-mark {base} e q f =
       finds-by t
-      (ap (λ (k : Parsed). reading (sepOf skip) radix (drop next t) (at exponent nothing (writtenOf t k))) q ∙ ap (λ (k : Class). afterRun k skip radix (drop next t) (writtenOf t p)) (sym e))
+      (ap (λ (k : Parsed). reading (sepOf skip) radix (drop next t) (at exponent nothing (writtenOf t k))) q
+      ∙ ap (λ (k : Class). afterRun k skip radix (drop next t) (writtenOf t p)) (sym e))
       f

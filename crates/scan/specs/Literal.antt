@@ -11,7 +11,8 @@ use lib.Seq.{drop-cons, drop-drop}
 use borrow.Author.Tests.{eq-eqb, ne-eqb}
 use Rattle.laws.specs.Lists.{no-length}
 use Rattle.format.specs.Meaning.{Sign, signed, unsigned}
-use Rattle.grammar.specs.Meaning.{prefixMark, prefixRadix, dropUnderscores, afterPrefix, literalMinus, literalBody, literalRadix, literalReading, isRadix, blank}
+use Rattle.grammar.specs.Meaning.{prefixMark, prefixRadix, dropUnderscores, afterPrefix, literalMinus}
+use Rattle.grammar.specs.Meaning.{literalBody, literalRadix, literalReading, isRadix, blank}
 use Rattle.grammar.specs.Automaton.{literalScan, at, whole, sign, Skip}
 use Rattle.grammar.specs.Reading.{reading}
 use Rattle.grammar.specs.Run.{sepOf}
@@ -143,6 +144,7 @@ module _ (s : Bool) (t : List ℕ) {neg : Bool} (m : neg ≡ literalMinus (liter
   literal-found d q e a f =
       finds-by t
       (ap₂ (λ (r : ℕ) (g : Bool). reading Skip r (drop d t) (at whole sign (blank g))) (literal-radix q e) m
-      ∙ ap (λ (l : List ℕ). reading Skip (literalRadix (literalSign s) t) l (at whole sign (blank (literalMinus (literalSign s) t)))) (a ∙ ap afterPrefix (body q))
+      ∙ ap (λ (l : List ℕ). reading Skip (literalRadix (literalSign s) t) l (at whole sign (blank (literalMinus (literalSign s) t))))
+      (a ∙ ap afterPrefix (body q))
       ∙ sym (literal-scanned (literalSign s) t))
       f

@@ -38,7 +38,8 @@ module _ (skip : Bool) (radix : ℕ) where
   more-stops [] b u e = let z : _≡_ {A = ℕ} 0 1 = cc in absurd (omega arith)
   more-stops (c ∷ t) b u e = go (inRun skip radix c) refl e (λ f. more-stops t b u f)
     where
-      go : (g : Bool) → inRun skip radix c ≡ g → drop (cond g (suc (runMore skip radix t)) 0) (c ∷ t) ≡ b ∷ u → (drop (runMore skip radix t) t ≡ b ∷ u → inRun skip radix b ≡ false) → inRun skip radix b ≡ false
+      go : (g : Bool) → inRun skip radix c ≡ g → drop (cond g (suc (runMore skip radix t)) 0) (c ∷ t) ≡ b ∷ u
+          → (drop (runMore skip radix t) t ≡ b ∷ u → inRun skip radix b ≡ false) → inRun skip radix b ≡ false
       go true h e more = more e
       go false h e more = let z : c ≡ b = cc in ap (inRun skip radix) (sym z) ∙ h
 
@@ -47,22 +48,29 @@ module _ (skip : Bool) (radix : ℕ) where
   run-stops [] b u e = let z : _≡_ {A = ℕ} 0 1 = cc in absurd (omega arith)
   run-stops (c ∷ t) b u e = go (isDigit radix c) refl e
     where
-      go : (g : Bool) → isDigit radix c ≡ g → drop (cond g (suc (runMore skip radix t)) 0) (c ∷ t) ≡ b ∷ u → (isDigit radix b ≡ false) × Stopped skip (cond g (suc (runMore skip radix t)) 0) b
+      go : (g : Bool) → isDigit radix c ≡ g → drop (cond g (suc (runMore skip radix t)) 0) (c ∷ t) ≡ b ∷ u
+          → (isDigit radix b ≡ false) × Stopped skip (cond g (suc (runMore skip radix t)) 0) b
       go true h e = either (isDigit radix b) (skip && eqb b 95) (more-stops t b u e)
       go false h e = let z : c ≡ b = cc in (ap (isDigit radix) (sym z) ∙ h, tt)
 
 -- ---- a part: its run, then the byte in front of which it ended
-module _ (t : List ℕ) (from radix : ℕ) (skip : Bool) (legal : isRadix radix ≡ true) (p : Bool) (x : Written) (n : ℕ) (count : n ≡ runLen skip radix (drop from t)) (y : Written) (same : withDigits p x (digitValues (take n (drop from t))) ≡ y) where
-  part-read : reading (sepOf skip) radix (drop from t) (at (partOf p) (opened p) x) ≡ reading (sepOf skip) radix (drop (from + n) t) (at (partOf p) (seenAfter n (opened p)) y)
+module _ (t : List ℕ) (from radix : ℕ) (skip : Bool) (legal : isRadix radix ≡ true) (p : Bool) (x : Written) (n : ℕ)
+    (count : n ≡ runLen skip radix (drop from t)) (y : Written) (same : withDigits p x (digitValues (take n (drop from t))) ≡ y) where
+  part-read : reading (sepOf skip) radix (drop from t) (at (partOf p) (opened p) x)
+      ≡ reading (sepOf skip) radix (drop (from + n) t) (at (partOf p) (seenAfter n (opened p)) y)
   unfolding reading
   part-read =
       ap (λ (s : Scan). readingOf (finish s)) (scan-run skip radix legal p (drop from t) (opened p) x)
-      ∙ ap (λ (k : ℕ). readingOf (finish (scan (sepOf skip) radix (drop k (drop from t)) (at (partOf p) (seenAfter k (opened p)) (withDigits p x (digitValues (take k (drop from t)))))))) (sym count)
+      ∙ ap (λ (k : ℕ). readingOf (finish
+      (scan (sepOf skip) radix (drop k (drop from t)) (at (partOf p) (seenAfter k (opened p)) (withDigits p x (digitValues (take k (drop from t))))))))
+      (sym count)
       ∙ ap₂ (λ (l : List ℕ) (z : Written). readingOf (finish (scan (sepOf skip) radix l (at (partOf p) (seenAfter n (opened p)) z)))) (drop-drop n from t) same
 
   -- the text ends with the run
   ends : length t ≤ from + n → reading (sepOf skip) radix (drop from t) (at (partOf p) (opened p) x) ≡ cond (eqb (length (y .digits)) 0) (unread 11) (number y)
-  ends h = part-read ∙ ap (λ (l : List ℕ). reading (sepOf skip) radix l (at (partOf p) (seenAfter n (opened p)) y)) (drop-of-length-le t h) ∙ read-end (sepOf skip) radix p (seenAfter n (opened p)) y
+  ends h =
+      part-read ∙ ap (λ (l : List ℕ). reading (sepOf skip) radix l (at (partOf p) (seenAfter n (opened p)) y)) (drop-of-length-le t h)
+      ∙ read-end (sepOf skip) radix p (seenAfter n (opened p)) y
 
   -- a byte stands behind the run
   here : from + n < length t → drop (from + n) t ≡ getD t (from + n) 0 ∷ drop (from + n + 1) t
@@ -70,10 +78,13 @@ module _ (t : List ℕ) (from radix : ℕ) (skip : Bool) (legal : isRadix radix 
 
   stopped : from + n < length t → (isDigit radix (getD t (from + n) 0) ≡ false) × Stopped skip n (getD t (from + n) 0)
   stopped h =
-      let s = run-stops skip radix (drop from t) (getD t (from + n) 0) (drop (from + n + 1) t) (ap (λ (k : ℕ). drop k (drop from t)) (sym count) ∙ drop-drop n from t ∙ here h) in
+      let s = run-stops skip radix (drop from t) (getD t (from + n) 0) (drop (from + n + 1) t)
+      (ap (λ (k : ℕ). drop k (drop from t)) (sym count) ∙ drop-drop n from t ∙ here h) in
       (s .0, subst (λ (k : ℕ). Stopped skip k (getD t (from + n) 0)) (sym count) (s .1))
 
-  goes-on : from + n < length t → (p ≡ false → getD t (from + n) 0 ≡ 46 → ⊥) → reading (sepOf skip) radix (drop from t) (at (partOf p) (opened p) x) ≡ afterRun (classOf radix (getD t (from + n) 0)) skip radix (drop (from + n + 1) t) y
+  goes-on : from + n < length t → (p ≡ false → getD t (from + n) 0 ≡ 46 → ⊥)
+      → reading (sepOf skip) radix (drop from t) (at (partOf p) (opened p) x)
+      ≡ afterRun (classOf radix (getD t (from + n) 0)) skip radix (drop (from + n + 1) t) y
   goes-on h o =
       part-read ∙ ap (λ (l : List ℕ). reading (sepOf skip) radix l (at (partOf p) (seenAfter n (opened p)) y)) (here h)
       ∙ read-after skip radix (getD t (from + n) 0) (drop (from + n + 1) t) y p n (stopped h .0) (stopped h .1) (λ e. ne-eqb (getD t (from + n) 0) 46 (o e))
@@ -81,24 +92,28 @@ module _ (t : List ℕ) (from radix : ℕ) (skip : Bool) (legal : isRadix radix 
 -- ---- the same of the code's numbers: `end` where the run ends, P the places so far
 module _ (t : List ℕ) (from radix : ℕ) (skip : Bool) (legal : isRadix radix ≡ true) (p : Bool) (x : Written) (P : Parsed) (ready : Ready t P) where
   pub part-end :
-      {end : ℕ} {r : Found} → end ≡ from + runLen skip radix (drop from t) → withDigits p x (digitValues (take (runLen skip radix (drop from t)) (drop from t))) ≡ writtenOf t P →
+      {end : ℕ} {r : Found} → end ≡ from + runLen skip radix (drop from t)
+      → withDigits p x (digitValues (take (runLen skip radix (drop from t)) (drop from t))) ≡ writtenOf t P →
       length t ≤ end → r ≡ unmarkedOf P → Finds t r (reading (sepOf skip) radix (drop from t) (at (partOf p) (opened p) x))
   part-end e same h q = finds-unmarked t P ready q (ends t from radix skip legal p x (runLen skip radix (drop from t)) refl (writtenOf t P) same (omega arith))
 
   pub part-after :
-      {end : ℕ} {c : Class} {r : Found} → end ≡ from + runLen skip radix (drop from t) → withDigits p x (digitValues (take (runLen skip radix (drop from t)) (drop from t))) ≡ writtenOf t P →
+      {end : ℕ} {c : Class} {r : Found} → end ≡ from + runLen skip radix (drop from t)
+      → withDigits p x (digitValues (take (runLen skip radix (drop from t)) (drop from t))) ≡ writtenOf t P →
       end < length t → (p ≡ false → getD t end 0 ≡ 46 → ⊥) → c ≡ classOf radix (getD t end 0) →
       Finds t r (afterRun c skip radix (drop (end + 1) t) (writtenOf t P)) → Finds t r (reading (sepOf skip) radix (drop from t) (at (partOf p) (opened p) x))
   part-after {end} {c} {r} e same h o q f =
       finds-by t
       (ap (λ (k : Class). afterRun k skip radix (drop (end + 1) t) (writtenOf t P)) q
       ∙ ap (λ (k : ℕ). afterRun (classOf radix (getD t k 0)) skip radix (drop (k + 1) t) (writtenOf t P)) e
-      ∙ sym (goes-on t from radix skip legal p x (runLen skip radix (drop from t)) refl (writtenOf t P) same (omega arith) (λ z b. o z (ap (λ (k : ℕ). getD t k 0) e ∙ b))))
+      ∙ sym (goes-on t from radix skip legal p x (runLen skip radix (drop from t)) refl (writtenOf t P) same (omega arith)
+      (λ z b. o z (ap (λ (k : ℕ). getD t k 0) e ∙ b))))
       f
 
 -- the point behind the whole part
 pub part-point :
-    (t : List ℕ) (from radix : ℕ) (skip : Bool) (legal : isRadix radix ≡ true) (x y : Written) {end : ℕ} {r : Found} → end ≡ from + runLen skip radix (drop from t) →
+    (t : List ℕ) (from radix : ℕ) (skip : Bool) (legal : isRadix radix ≡ true) (x y : Written) {end : ℕ} {r : Found}
+    → end ≡ from + runLen skip radix (drop from t) →
     withDigits false x (digitValues (take (runLen skip radix (drop from t)) (drop from t))) ≡ y → end < length t → getD t end 0 ≡ 46 →
     Finds t r (reading (sepOf skip) radix (drop (end + 1) t) (at fraction nothing y)) → Finds t r (reading (sepOf skip) radix (drop from t) (at whole sign x))
 part-point t from radix skip legal x y {end} {r} e same h b f =
@@ -127,7 +142,8 @@ unfolding bodyOf
 body-append [] b = refl
 body-append (c ∷ a) b = go (eqb c 95 || eqb c 46) (body-append a b)
   where
-    go : (g : Bool) → bodyOf (a ++ b) ≡ bodyOf a ++ bodyOf b → cond g (bodyOf (a ++ b)) (digitOf c ∷ bodyOf (a ++ b)) ≡ cond g (bodyOf a) (digitOf c ∷ bodyOf a) ++ bodyOf b
+    go : (g : Bool) → bodyOf (a ++ b) ≡ bodyOf a ++ bodyOf b
+        → cond g (bodyOf (a ++ b)) (digitOf c ∷ bodyOf (a ++ b)) ≡ cond g (bodyOf a) (digitOf c ∷ bodyOf a) ++ bodyOf b
     go true e = e
     go false e = ap (λ (l : List ℕ). digitOf c ∷ l) e
 
@@ -169,7 +185,8 @@ module _ (skip : Bool) (radix : ℕ) (legal : isRadix radix ≡ true) where
   body-run [] = no-bytes
   body-run (b ∷ t) = go (isDigit radix b) refl
     where
-      go : (d : Bool) → isDigit radix b ≡ d → bodyOf (take (cond d (suc (runMore skip radix t)) 0) (b ∷ t)) ≡ digitValues (take (cond d (suc (runMore skip radix t)) 0) (b ∷ t))
+      go : (d : Bool) → isDigit radix b ≡ d
+          → bodyOf (take (cond d (suc (runMore skip radix t)) 0) (b ∷ t)) ≡ digitValues (take (cond d (suc (runMore skip radix t)) 0) (b ∷ t))
       go true e =
           let n = digit-plain radix b legal e in
           values-same b (take (runMore skip radix t) t) (take (runMore skip radix t) t) (n .no-point) (n .no-under) (body-more t)
@@ -242,18 +259,26 @@ module _ (t : List ℕ) (from radix : ℕ) (skip : Bool) {run : Run} (e : run �
         whole-counted = run-counted;
         frac-counted = sym (ap length (no-span t (run .to)));
         small = omega arith;
-        stretch = record { start = run-start; end = run-end-fits h; both = run-body legal ∙ sym (append-nil (runDigits t run)) ∙ ap (λ (l : List ℕ). runDigits t run ++ l) (sym (no-span t (run .to))) };
+        stretch =
+            record {
+              start = run-start;
+              end = run-end-fits h;
+              both = run-body legal ∙ sym (append-nil (runDigits t run))
+                  ∙ ap (λ (l : List ℕ). runDigits t run ++ l) (sym (no-span t (run .to)));
+            };
       }
 
   pub whole-is : (neg : Bool) → withDigits false (blank neg) (digitValues (take (runLen skip radix (drop from t)) (drop from t))) ≡ wholeOf t neg run
   whole-is neg = ap (λ (ds : List ℕ). record { neg = neg; digits = ds; after = 0; base = 1; down = false; exp = 0 }) (sym run-span)
 
-  pub whole-same : (neg : Bool) → withDigits false (blank neg) (digitValues (take (runLen skip radix (drop from t)) (drop from t))) ≡ writtenOf t (wholeParsed neg run)
+  pub whole-same : (neg : Bool) → withDigits false (blank neg) (digitValues (take (runLen skip radix (drop from t)) (drop from t)))
+      ≡ writtenOf t (wholeParsed neg run)
   unfolding writtenOf
   whole-same neg =
       whole-is neg
       ∙ ap (λ (ds : List ℕ). record { neg = neg; digits = ds; after = 0; base = 1; down = false; exp = 0 }) (sym (append-nil (runDigits t run)))
-      ∙ ap (λ (ds : List ℕ). record { neg = neg; digits = runDigits t run ++ ds; after = length ds; base = 1; down = false; exp = 0 }) (sym (no-span t (run .to)))
+      ∙ ap (λ (ds : List ℕ). record { neg = neg; digits = runDigits t run ++ ds; after = length ds; base = 1; down = false; exp = 0 })
+      (sym (no-span t (run .to)))
 
   run-from : run .from ≡ from
   unfolding runAt
@@ -279,18 +304,21 @@ module _ (t : List ℕ) (from radix : ℕ) (skip : Bool) {run : Run} (e : run �
         };
       }
 
-  pub frac-same : (neg : Bool) (w : Run) → withDigits true (wholeOf t neg w) (digitValues (take (runLen skip radix (drop from t)) (drop from t))) ≡ writtenOf t (fracParsed neg w run)
+  pub frac-same : (neg : Bool) (w : Run)
+      → withDigits true (wholeOf t neg w) (digitValues (take (runLen skip radix (drop from t)) (drop from t))) ≡ writtenOf t (fracParsed neg w run)
   unfolding writtenOf
   frac-same neg w =
       ap (λ (ds : List ℕ). withDigits true (wholeOf t neg w) ds) (sym run-span)
-      ∙ ap (λ (k : ℕ). record { neg = neg; digits = runDigits t w ++ runDigits t run; after = k; base = 1; down = false; exp = 0 }) (zero-add (length (runDigits t run)))
+      ∙ ap (λ (k : ℕ). record { neg = neg; digits = runDigits t w ++ runDigits t run; after = k; base = 1; down = false; exp = 0 })
+      (zero-add (length (runDigits t run)))
 
 -- ---- the plain text: its sign, or none
 module _ (t : List ℕ) (radix : ℕ) where
   plain-is : reading Error radix t (at whole nothing (blank false)) ≡ plainReading radix t
   plain-is = sym (plain-agrees radix t)
 
-  pub plain-none : {r : Found} → signFirst t ≡ false → Finds t r (reading (sepOf false) radix (drop 0 t) (at whole sign (blank false))) → Finds t r (plainReading radix t)
+  pub plain-none : {r : Found} → signFirst t ≡ false → Finds t r (reading (sepOf false) radix (drop 0 t) (at whole sign (blank false)))
+      → Finds t r (plainReading radix t)
   plain-none h f = finds-by t (sym (read-unsigned Error radix t (blank false) h) ∙ plain-is) f
 
   pub plain-signed :
@@ -303,13 +331,16 @@ module _ (t : List ℕ) (radix : ℕ) where
       ∙ ap (λ (l : List ℕ). reading Error radix l (at whole nothing (blank false))) (sym (drop-cons t 0 0 h)) ∙ plain-is)
       f
 
-  pub plain-empty : {r : Found} → length t ≡ 0 → Finds t r (reading (sepOf false) radix (drop 0 t) (at whole sign (blank false))) → Finds t r (plainReading radix t)
+  pub plain-empty : {r : Found} → length t ≡ 0 → Finds t r (reading (sepOf false) radix (drop 0 t) (at whole sign (blank false)))
+      → Finds t r (plainReading radix t)
   plain-empty h f = plain-none (no-sign-past t 0 (omega arith)) f
 
-  pub plain-plus : {r : Found} → (length t ≡ 0 → ⊥) → getD t 0 0 ≡ 43 → Finds t r (reading (sepOf false) radix (drop 1 t) (at whole sign (blank false))) → Finds t r (plainReading radix t)
+  pub plain-plus : {r : Found} → (length t ≡ 0 → ⊥) → getD t 0 0 ≡ 43 → Finds t r (reading (sepOf false) radix (drop 1 t) (at whole sign (blank false)))
+      → Finds t r (plainReading radix t)
   plain-plus h b f = plain-signed false (omega arith) (rw b) (rw b) f
 
-  pub plain-minus : {r : Found} → (length t ≡ 0 → ⊥) → getD t 0 0 ≡ 45 → Finds t r (reading (sepOf false) radix (drop 1 t) (at whole sign (blank true))) → Finds t r (plainReading radix t)
+  pub plain-minus : {r : Found} → (length t ≡ 0 → ⊥) → getD t 0 0 ≡ 45 → Finds t r (reading (sepOf false) radix (drop 1 t) (at whole sign (blank true)))
+      → Finds t r (plainReading radix t)
   plain-minus h b f = plain-signed true (omega arith) (rw b) (rw b) f
 
   pub plain-digits :

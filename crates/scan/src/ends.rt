@@ -1,4 +1,5 @@
-// The end of the text, before the mark and after it: a text with no digits is none, nor is a mark with no digit after it.
+// The end of the text, before the mark and after it: a text with no digits
+// is none, nor is a mark with no digit after it.
 ghost use mathlib.Core.Path.{_≡_};
 ghost use Rattle.scan.specs.Found.{noDigits, unmarkedOf, expEndOf};
 use crate::Found;

@@ -1,5 +1,6 @@
-// Which texts are numbers, and where their digits stand: one pass over the bytes, by runs of digits (docs/GRAMMAR.md; `parse_bounds` and
-// `lit` of S's src/from_str.rs). A plain text is scanned here, a literal in literal.rt. Inner functions of the readers.
+// Which texts are numbers, and where their digits stand: one pass over the bytes, by runs of digits
+// (docs/GRAMMAR.md; `parse_bounds` and `lit` of S's src/from_str.rs). A plain text is scanned here, a literal
+// in literal.rt. Inner functions of the readers.
 ghost use mathlib.Core.Path.{_≡_};
 ghost use mathlib.Core.Bool.{true};
 ghost use Rattle.grammar.specs.Meaning.{plainReading, isRadix};

@@ -68,7 +68,8 @@ fn prefix_radix(text: &[u8], from: usize) -> u32
 // The first byte from `from` on that is no `_`.
 fn past_underscores(text: &[u8], from: usize) -> usize
     requires { ⌜ from ≤ length (now text) ⌝ }
-    ensures { λ r. ⌜ (r ≤ length (now (text .entry))) × (drop r (now (text .entry)) ≡ dropUnderscores (drop from (now (text .entry)))) ⌝ }
+    ensures { λ r. ⌜ (r ≤ length (now (text .entry)))
+        × (drop r (now (text .entry)) ≡ dropUnderscores (drop from (now (text .entry)))) ⌝ }
 {
     let mut i = from;
     while i < text.len() {
@@ -83,7 +84,8 @@ fn past_underscores(text: &[u8], from: usize) -> usize
 // Where the digits start, the prefix at `from` being of this radix.
 fn digits_at(text: &[u8], from: usize, radix: u32) -> usize
     requires { ⌜ (from ≤ length (now text)) × (radix ≡ prefixRadix (drop from (now text))) ⌝ }
-    ensures { λ r. ⌜ (r ≤ length (now (text .entry))) × (drop r (now (text .entry)) ≡ afterPrefix (drop from (now (text .entry)))) ⌝ }
+    ensures { λ r. ⌜ (r ≤ length (now (text .entry)))
+        × (drop r (now (text .entry)) ≡ afterPrefix (drop from (now (text .entry)))) ⌝ }
 {
     if radix == 10 {
         return from;

@@ -14,7 +14,9 @@ use exponent::ExpStep;
 // The exponent's digits, once its sign was read.
 fn exp_run(text: &[u8], from: usize, radix: u32, skip: bool, p: Parsed) -> Found
     requires { ⌜ (from ≤ length (now text)) × Ready (now text) p ⌝ }
-    ensures { λ r. ⌜ Finds (now (text .entry)) r (reading (sepOf skip) radix (drop from (now (text .entry))) (at exponentPart signSeen (writtenOf (now (text .entry)) p))) ⌝ }
+    ensures { λ r. ⌜ Finds (now (text .entry)) r
+        (reading (sepOf skip) radix (drop from (now (text .entry)))
+        (at exponentPart signSeen (writtenOf (now (text .entry)) p))) ⌝ }
 {
     let down = p.down;
     let mut e = p.exp;
@@ -38,7 +40,9 @@ fn exp_run(text: &[u8], from: usize, radix: u32, skip: bool, p: Parsed) -> Found
 // After the mark: a sign or none, then digits.
 pub(crate) fn exponent(text: &[u8], from: usize, radix: u32, skip: bool, p: Parsed) -> Found
     requires { ⌜ (from ≤ length (now text)) × Ready (now text) p ⌝ }
-    ensures { λ r. ⌜ Finds (now (text .entry)) r (reading (sepOf skip) radix (drop from (now (text .entry))) (at exponentPart nothing (writtenOf (now (text .entry)) p))) ⌝ }
+    ensures { λ r. ⌜ Finds (now (text .entry)) r
+        (reading (sepOf skip) radix (drop from (now (text .entry)))
+        (at exponentPart nothing (writtenOf (now (text .entry)) p))) ⌝ }
 {
     if text.len() <= from {
         return exp_run(text, from, radix, skip, p);

@@ -39,7 +39,8 @@ fn under_number(skip: bool) -> u32
 // After a run of digits, by the class of the byte in front of which it ended; the text goes on at `next`.
 fn after_run(class: Class, text: &[u8], next: usize, radix: u32, skip: bool, p: Parsed) -> Found
     requires { ⌜ (next ≤ length (now text)) × Ready (now text) p ⌝ }
-    ensures { λ r. ⌜ Finds (now (text .entry)) r (afterRun class skip radix (drop next (now (text .entry))) (writtenOf (now (text .entry)) p)) ⌝ }
+    ensures { λ r. ⌜ Finds (now (text .entry)) r
+        (afterRun class skip radix (drop next (now (text .entry))) (writtenOf (now (text .entry)) p)) ⌝ }
 {
     match class {
         Class::Sign => Found::Refused(refusal::MISPLACED_SIGN),
@@ -53,7 +54,9 @@ fn after_run(class: Class, text: &[u8], next: usize, radix: u32, skip: bool, p: 
 // After the point.
 fn fraction(text: &[u8], from: usize, radix: u32, skip: bool, neg: bool, whole: Run) -> Found
     requires { ⌜ (from ≤ length (now text)) × (isRadix radix ≡ true) × Behind (now text) whole from ⌝ }
-    ensures { λ r. ⌜ Finds (now (text .entry)) r (reading (sepOf skip) radix (drop from (now (text .entry))) (at fractionPart nothing (wholeOf (now (text .entry)) neg whole))) ⌝ }
+    ensures { λ r. ⌜ Finds (now (text .entry)) r
+        (reading (sepOf skip) radix (drop from (now (text .entry)))
+        (at fractionPart nothing (wholeOf (now (text .entry)) neg whole))) ⌝ }
 {
     let run = run::run_at(text, from, radix, skip);
     let end = run.to;
@@ -81,7 +84,8 @@ fn fraction(text: &[u8], from: usize, radix: u32, skip: bool, neg: bool, whole: 
 // The number's digits, once its sign was read.
 pub(crate) fn whole(text: &[u8], from: usize, radix: u32, skip: bool, neg: bool) -> Found
     requires { ⌜ (from ≤ length (now text)) × (isRadix radix ≡ true) ⌝ }
-    ensures { λ r. ⌜ Finds (now (text .entry)) r (reading (sepOf skip) radix (drop from (now (text .entry))) (at wholePart signSeen (blank neg))) ⌝ }
+    ensures { λ r. ⌜ Finds (now (text .entry)) r
+        (reading (sepOf skip) radix (drop from (now (text .entry))) (at wholePart signSeen (blank neg))) ⌝ }
 {
     let run = run::run_at(text, from, radix, skip);
     let end = run.to;

@@ -1,10 +1,11 @@
--- The order of two numbers depends on their difference alone; and that of a decimal fraction 0.d1 d2 .. dn and t / 10 m, digit by digit: t is c times m and a rest; the next digit is
--- compared with c, and where they are the same, what is left with ten times the rest. Assumes nothing.
+-- The order of two numbers depends on their difference alone; and that of a decimal fraction 0.d1 d2 .. dn and t / 10 m, digit by digit: t is c times m and a
+-- rest; the next digit is compared with c, and where they are the same, what is left with ten times the rest. Assumes nothing.
 use mathlib.Core.Path.{_≡_, refl, sym, ap, ap₂, _∙_}
 use mathlib.Core.Bool.{Bool, true, false, cond}
 use mathlib.Core.List.{List, [], _∷_, _++_}
 use Prim.Native.Nat.{ℕ, zero, suc, _+_, _-_, _*_, _/_, _%_, _^_, _≤_, _<_}
-use native.Mathlib.Nat.{div-add-mod', mod-lt, mul-le-mul-right, mul-lt-mul-of-pos-right, pow-suc, mul-div-cancel-left, div-eq-of-lt, mod-eq-of-lt, le-div-iff-mul-le, lt-of-lt-of-le}
+use native.Mathlib.Nat.{div-add-mod', mod-lt, mul-le-mul-right, mul-lt-mul-of-pos-right, pow-suc}
+use native.Mathlib.Nat.{mul-div-cancel-left, div-eq-of-lt, mod-eq-of-lt, le-div-iff-mul-le, lt-of-lt-of-le}
 use native.Mathlib.Omega.{arith}
 use lib.Dec.{ltb, eqb}
 use lib.ListN.{length, replicate}
@@ -30,7 +31,8 @@ order-cases A a b l s m = go (ltb a b) (ltb b a) refl refl
 -- it depends on the difference alone, and not on a common factor
 pub order-shift : (k a b : ℕ) → orderOf (k + a) (k + b) ≡ orderOf a b
 order-shift k a b =
-    order-cases (λ o. orderOf (k + a) (k + b) ≡ o) a b (λ h. order-less _ _ (omega arith)) (λ h. order-same _ _ (omega arith)) (λ h. order-more _ _ (omega arith))
+    order-cases (λ o. orderOf (k + a) (k + b) ≡ o) a b (λ h. order-less _ _ (omega arith)) (λ h. order-same _ _ (omega arith))
+    (λ h. order-more _ _ (omega arith))
 
 pub order-scale : (k a b : ℕ) → 0 < k → orderOf (a * k) (b * k) ≡ orderOf a b
 order-scale k a b g =
@@ -99,7 +101,8 @@ order-sink zero ds t m h s = refl
 order-sink (suc z) ds t m h s = go (ltb t m) refl (order-sink z ds (t * 10) m h s)
   where
     go : (g : Bool) → ltb t m ≡ g → orderTen (replicate z 0 ++ ds) (t * 10) m ≡ orderTen ds (sinkOf z (t * 10) m) m
-        → cond (ltb 0 (t / m)) Less (cond (ltb (t / m) 0) More (orderTen (replicate z 0 ++ ds) (t % m * 10) m)) ≡ orderTen ds (cond g (sinkOf z (t * 10) m) (m * 10)) m
+        → cond (ltb 0 (t / m)) Less (cond (ltb (t / m) 0) More (orderTen (replicate z 0 ++ ds) (t % m * 10) m))
+        ≡ orderTen ds (cond g (sinkOf z (t * 10) m) (m * 10)) m
     go true e next = let l = ltb-true t m e in rw (div-eq-of-lt l, mod-eq-of-lt l) next
     go false e next =
         let l = ltb-false t m e in
@@ -130,7 +133,8 @@ module _ (t m : ℕ) where
 pub middle-fits : (q : ℕ) {a : ℕ} → q < 2 ^ 64 → a ≡ q * 10 → a + (0 * 2 ^ 64 + 5) < 2 ^ 128
 middle-fits q h e = lt-of-lt-of-le {m = 2 ^ 68} (omega arith) (pow-mono {i = 68} {j = 128} (omega arith))
 
-pub middle-words : (f q : ℕ) {a b r : ℕ} → f ≤ 64 → q < 2 ^ f → a ≡ q * 10 → b ≡ a + (0 * 2 ^ 64 + 5) → r ≡ b * 2 ^ (64 - f) % 2 ^ 128 → r ≡ (q * 10 + 5) * 2 ^ (64 - f)
+pub middle-words : (f q : ℕ) {a b r : ℕ} → f ≤ 64 → q < 2 ^ f → a ≡ q * 10 → b ≡ a + (0 * 2 ^ 64 + 5) → r ≡ b * 2 ^ (64 - f) % 2 ^ 128
+    → r ≡ (q * 10 + 5) * 2 ^ (64 - f)
 middle-words f q {b = b} h l e g k =
     let sum : b ≡ q * 10 + 5 = omega arith in
     let fits : q * 10 + 5 < 2 ^ (f + 4) = rw pow-add (omega arith) in

@@ -25,7 +25,8 @@ module _ (f : ℕ) (ds : List ℕ) (after e : ℕ) where
   point-past h =
       let split : 10 ^ e ≡ 10 ^ (e - after) * 10 ^ after = ap (λ (i : ℕ). 10 ^ i) (omega arith) ∙ pow-add 10 (e - after) after in
       let n = natOf 10 ds in
-      nearest-same (n * 10 ^ e * 2 ^ f) (10 ^ after * 1) (n * 10 ^ (e - after) * 2 ^ f * 1) 1 (omega (arith, power after)) (omega arith) (omega (arith, ap (λ (y : ℕ). n * y * 2 ^ f) split))
+      nearest-same (n * 10 ^ e * 2 ^ f) (10 ^ after * 1) (n * 10 ^ (e - after) * 2 ^ f * 1) 1 (omega (arith, power after)) (omega arith)
+      (omega (arith, ap (λ (y : ℕ). n * y * 2 ^ f) split))
       ∙ nearest-exact (n * 10 ^ (e - after) * 2 ^ f) 1 (omega arith)
 
   pub point-up : e ≤ after → rawOf 10 f (decimal ds after false e) ≡ nearestEven (natOf 10 ds * 2 ^ f) (10 ^ (after - e))
@@ -33,7 +34,8 @@ module _ (f : ℕ) (ds : List ℕ) (after e : ℕ) where
   point-up h =
       let split : 10 ^ after ≡ 10 ^ (after - e) * 10 ^ e = ap (λ (i : ℕ). 10 ^ i) (omega arith) ∙ pow-add 10 (after - e) e in
       let n = natOf 10 ds in
-      nearest-same (n * 10 ^ e * 2 ^ f) (10 ^ after * 1) (n * 2 ^ f) (10 ^ (after - e)) (omega (arith, power after)) (power (after - e)) (omega (arith, ap (λ (y : ℕ). n * 2 ^ f * y) split))
+      nearest-same (n * 10 ^ e * 2 ^ f) (10 ^ after * 1) (n * 2 ^ f) (10 ^ (after - e)) (omega (arith, power after)) (power (after - e))
+      (omega (arith, ap (λ (y : ℕ). n * 2 ^ f * y) split))
 
   pub point-down : rawOf 10 f (decimal ds after true e) ≡ nearestEven (natOf 10 ds * 2 ^ f) (10 ^ (after + e))
   unfolding rawOf num den

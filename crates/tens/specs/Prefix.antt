@@ -3,7 +3,8 @@
 use mathlib.Core.Path.{_≡_, refl, sym, ap, _∙_}
 use mathlib.Core.List.{List, [], _∷_, _++_}
 use Prim.Native.Nat.{ℕ, zero, suc, _+_, _-_, _*_, _/_, _%_, _^_, _≤_, _<_}
-use native.Mathlib.Nat.{div-add-mod', mod-lt, mul-le-mul-right, mul-lt-mul-of-pos-right, pow-zero, pow-suc, div-div-eq-div-mul, mul-div-mul-right, one-le-pow, div-lt-iff-lt-mul, zero-add, lt-of-lt-of-le}
+use native.Mathlib.Nat.{div-add-mod', mod-lt, mul-le-mul-right, mul-lt-mul-of-pos-right, pow-zero, pow-suc}
+use native.Mathlib.Nat.{div-div-eq-div-mul, mul-div-mul-right, one-le-pow, div-lt-iff-lt-mul, zero-add, lt-of-lt-of-le}
 use native.Mathlib.Omega.{arith}
 use lib.Dec.{lit<}
 use lib.ListN.{length, drop, replicate}
@@ -67,7 +68,8 @@ lead-zeros (suc z) k ds = ap (λ (n : ℕ). leadOf n (replicate (suc z) 0 ++ ds)
 pub lead-more : (j k : ℕ) (ds : List ℕ) (v : ℕ) → leadFrom (j + k) ds v ≡ leadFrom k (drop j ds) (leadFrom j ds v)
 unfolding leadFrom
 lead-more zero k ds v = ap (λ (n : ℕ). leadFrom n ds v) (zero-add k)
-lead-more (suc j) k [] v = ap (λ (n : ℕ). leadFrom n [] v) (suc-add j k) ∙ lead-more j k [] (v * 10) ∙ ap (λ (l : List ℕ). leadFrom k l (leadFrom j [] (v * 10))) (drop-none j)
+lead-more (suc j) k [] v =
+    ap (λ (n : ℕ). leadFrom n [] v) (suc-add j k) ∙ lead-more j k [] (v * 10) ∙ ap (λ (l : List ℕ). leadFrom k l (leadFrom j [] (v * 10))) (drop-none j)
 lead-more (suc j) k (d ∷ ds) v = ap (λ (n : ℕ). leadFrom n (d ∷ ds) v) (suc-add j k) ∙ lead-more j k ds (v * 10 + d)
 
 pub lead-shift : (k : ℕ) (ds : List ℕ) (v : ℕ) → leadFrom k ds v ≡ v * 10 ^ k + leadOf k ds
@@ -137,7 +139,8 @@ module _ (ds : List ℕ) (small : Small ds) (f : ℕ) (few : f ≤ 64) where
       let val = leadOf 27 ds in
       let cut : val * 10 ^ length ds * 2 ^ f ≤ natOf 10 ds * 10 ^ 27 * 2 ^ f = mul-le-mul-right (2 ^ f) (lead-low 27 ds 0) in
       let q = val * 2 ^ f / 10 ^ 27 in
-      let part : q * 10 ^ 27 * 10 ^ length ds ≤ val * 2 ^ f * 10 ^ length ds = mul-le-mul-right (10 ^ length ds) (omega (arith, div-add-mod' (val * 2 ^ f) (10 ^ 27))) in
+      let part : q * 10 ^ 27 * 10 ^ length ds ≤ val * 2 ^ f * 10 ^ length ds = mul-le-mul-right (10 ^ length ds)
+      (omega (arith, div-add-mod' (val * 2 ^ f) (10 ^ 27))) in
       omega arith
 
   pub first-high : natOf 10 ds * 2 ^ f * 2 < (first * 2 + 3) * 10 ^ length ds
@@ -148,7 +151,8 @@ module _ (ds : List ℕ) (small : Small ds) (f : ℕ) (few : f ≤ 64) where
       let q = val * 2 ^ f / 10 ^ 27 in
       let cut : natOf 10 ds * 10 ^ 27 * 2 ^ f < suc val * p * 2 ^ f = mul-lt-mul-of-pos-right (lead-high 27 ds 0 small) (pow-pos f) in
       let bits : 2 ^ f ≤ 2 ^ 64 = pow-mono few in
-      let near : suc val * 2 ^ f * 2 ≤ (q * 2 + 3) * 10 ^ 27 = omega (arith, div-add-mod' (val * 2 ^ f) (10 ^ 27), mod-lt (val * 2 ^ f) {m = 10 ^ 27} (lit< tt)) in
+      let near : suc val * 2 ^ f * 2 ≤ (q * 2 + 3) * 10 ^ 27 = omega
+      (arith, div-add-mod' (val * 2 ^ f) (10 ^ 27), mod-lt (val * 2 ^ f) {m = 10 ^ 27} (lit< tt)) in
       let far : suc val * 2 ^ f * 2 * p ≤ (q * 2 + 3) * 10 ^ 27 * p = mul-le-mul-right p near in
       omega arith
 

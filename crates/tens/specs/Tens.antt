@@ -72,13 +72,15 @@ lift-end v z e f =
     let p : (v + 0) * 10 ^ z ≡ v * 10 ^ z = omega arith in
     f ∙ ap (λ (y : Folded). foldOf (foldedValue y * 10 ^ z)) e ∙ fold-times (v + 0) (10 ^ z) (one-le-pow z 10 (omega arith)) ∙ ap foldOf p
 
-pub past-folded : (ds : List ℕ) (k z f : ℕ) {x y r : Folded} → k ≡ length ds → x ≡ foldOf (natOf 10 (take k ds)) → y ≡ foldOf (foldedValue x * 10 ^ z) → r ≡ foldOf (foldedValue y * 2 ^ f)
+pub past-folded : (ds : List ℕ) (k z f : ℕ) {x y r : Folded} → k ≡ length ds → x ≡ foldOf (natOf 10 (take k ds)) → y ≡ foldOf (foldedValue x * 10 ^ z)
+    → r ≡ foldOf (foldedValue y * 2 ^ f)
     → r ≡ foldOf (natOf 10 ds * 10 ^ z * 2 ^ f)
 past-folded ds k z f l e g h =
     let n = natOf 10 ds in
     let all : natOf 10 (take k ds) ≡ n = ap (λ (i : ℕ). natOf 10 (take i ds)) l ∙ ap (natOf 10) (take-length ds) in
     h
-    ∙ ap (λ (y : Folded). foldOf (foldedValue y * 2 ^ f)) (g ∙ ap (λ (x : Folded). foldOf (foldedValue x * 10 ^ z)) (e ∙ ap foldOf all) ∙ fold-times n (10 ^ z) (one-le-pow z 10 (omega arith)))
+    ∙ ap (λ (y : Folded). foldOf (foldedValue y * 2 ^ f))
+    (g ∙ ap (λ (x : Folded). foldOf (foldedValue x * 10 ^ z)) (e ∙ ap foldOf all) ∙ fold-times n (10 ^ z) (one-le-pow z 10 (omega arith)))
     ∙ fold-times (n * 10 ^ z) (2 ^ f) (pow-pos f)
 
 -- ---- what rounding adds

@@ -121,7 +121,8 @@ group-end t from count k at v h l b inv rest =
 pub lead-fits : (z : ℕ) (ds : List ℕ) → Small ds → leadOf 27 (replicate z 0 ++ ds) < 10 ^ 27
 lead-fits z ds s = omega (arith, lead-below 27 (replicate z 0 ++ ds) 0 (small-zeros z ds s))
 
-module _ (t : List ℕ) (from z : ℕ) {a mid b end m : ℕ} (few : z ≤ 19) (high : Group t from (19 - z) a mid) (low : Group t mid 8 b end) (product : m ≡ a * 10 ^ 8) where
+module _ (t : List ℕ) (from z : ℕ) {a mid b end m : ℕ} (few : z ≤ 19) (high : Group t from (19 - z) a mid) (low : Group t mid 8 b end)
+    (product : m ≡ a * 10 ^ 8) where
   pub group-two : m + (0 * 2 ^ 64 + b) ≡ leadOf 27 (replicate z 0 ++ digitsAt t from)
   group-two =
       let sum : m + (0 * 2 ^ 64 + b) ≡ a * 10 ^ 8 + b = omega arith in

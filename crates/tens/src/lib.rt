@@ -1,5 +1,5 @@
-// The raw of a decimal number: the digits before the point exactly, those after it rounded by the first 27 and one comparison. An inner
-// function of the readers.
+// The raw of a decimal number: the digits before the point exactly, those after it rounded by the first 27 and one
+// comparison. An inner function of the readers.
 ghost use mathlib.Core.Path.{_≡_};
 ghost use mathlib.Core.List.{_++_, List·Memᴰ};
 ghost use Prim.Native.Nat.{ℕ, _+_, _*_, _^_, _≤_, _<_};
@@ -62,10 +62,13 @@ fn carry(side: Order, last: u64) -> u64
     }
 }
 
-// A whole number and a fraction beside it: zeros, and then the digits from a position on. The sum's last bit decides a tie.
+// A whole number and a fraction beside it: zeros, and then the digits from a
+// position on. The sum's last bit decides a tie.
 fn beside(body: &[u8], from: usize, count: usize, zeros: u32, whole: Folded, frac: u32) -> Folded
-    requires { ⌜ (from ≤ length (now body)) × (count ≡ length (digitsAt (now body) from)) × Small (digitsAt (now body) from) × (zeros ≤ 19) × (frac ≤ 64) ⌝ }
-    ensures { λ r. ⌜ r ≡ foldOf (besideOf (foldedValue whole) (replicate zeros 0 ++ digitsAt (now (body .entry)) from) frac) ⌝ }
+    requires { ⌜ (from ≤ length (now body)) × (count ≡ length (digitsAt (now body) from))
+        × Small (digitsAt (now body) from) × (zeros ≤ 19) × (frac ≤ 64) ⌝ }
+    ensures { λ r. ⌜ r ≡ foldOf (besideOf (foldedValue whole) (replicate zeros 0 ++ digitsAt (now (body .entry)) from)
+        frac) ⌝ }
 {
     let q = prefix::first(body, from, zeros, frac);
     let side = order::side(body, from, count, zeros, q, frac);
@@ -93,7 +96,8 @@ fn below(body: &[u8], n: usize, places: u64, frac: u32) -> Folded
 
 // The raw of the number with these digits, `after` of them after the point, times ten to the exponent.
 pub fn tens(body: &[u8], n: usize, after: usize, down: bool, exp: u64, frac: u32) -> Folded
-    requires { ⌜ (n ≡ length (bodyOf (now body))) × (after ≤ n) × ((d : ℕ) → List·Memᴰ d (bodyOf (now body)) → d < 10) × (exp ≤ 2147483648) × (frac ≤ 64) × (length (now body) ≤ textLimit) ⌝ }
+    requires { ⌜ (n ≡ length (bodyOf (now body))) × (after ≤ n) × ((d : ℕ) → List·Memᴰ d (bodyOf (now body)) → d < 10)
+        × (exp ≤ 2147483648) × (frac ≤ 64) × (length (now body) ≤ textLimit) ⌝ }
     ensures { λ r. ⌜ r ≡ foldOf (rawOf 10 frac (decimal (bodyOf (now (body .entry))) after down exp)) ⌝ }
 {
     let places = after as u64;

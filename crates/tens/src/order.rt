@@ -20,7 +20,8 @@ fn middle(q: u64, frac: u32) -> Wide
     wide::shl(ten, 64 - frac)
 }
 
-// The zeros in front of the digits: each takes ten times the rest. Where that reaches ten times the unit, every digit is below it.
+// The zeros in front of the digits: each takes ten times the rest. Where that
+// reaches ten times the unit, every digit is below it.
 fn sink(start: Wide, zeros: u32) -> Wide
     ensures { λ r. ⌜ valueOf r ≡ sinkOf zeros (valueOf start) (2 ^ 64) ⌝ }
 {
@@ -36,7 +37,8 @@ fn sink(start: Wide, zeros: u32) -> Wide
     rest
 }
 
-// The digits from a position on, `count` of them, against the middle: each against the whole part of what is left of ten times it.
+// The digits from a position on, `count` of them, against the middle: each against
+// the whole part of what is left of ten times it.
 fn walk(body: &[u8], from: usize, count: usize, start: Wide) -> Order
     requires { ⌜ (from ≤ length (now body)) × (count ≡ length (digitsAt (now body) from)) ⌝ }
     ensures { λ r. ⌜ r ≡ orderTen (digitsAt (now (body .entry)) from) (valueOf start) (2 ^ 64) ⌝ }
@@ -67,8 +69,10 @@ fn walk(body: &[u8], from: usize, count: usize, start: Wide) -> Order
 
 // The side of the middle above q that the fraction lies on: zeros, and then the digits from a position on.
 pub(crate) fn side(body: &[u8], from: usize, count: usize, zeros: u32, q: u64, frac: u32) -> Order
-    requires { ⌜ (from ≤ length (now body)) × (count ≡ length (digitsAt (now body) from)) × Small (digitsAt (now body) from) × (frac ≤ 64) × (q < 2 ^ frac) ⌝ }
-    ensures { λ r. ⌜ r ≡ orderTen (replicate zeros 0 ++ digitsAt (now (body .entry)) from) ((q * 10 + 5) * 2 ^ (64 - frac)) (2 ^ 64) ⌝ }
+    requires { ⌜ (from ≤ length (now body)) × (count ≡ length (digitsAt (now body) from))
+        × Small (digitsAt (now body) from) × (frac ≤ 64) × (q < 2 ^ frac) ⌝ }
+    ensures { λ r. ⌜ r ≡ orderTen (replicate zeros 0 ++ digitsAt (now (body .entry)) from)
+        ((q * 10 + 5) * 2 ^ (64 - frac)) (2 ^ 64) ⌝ }
 {
     walk(body, from, count, sink(middle(q, frac), zeros))
 }

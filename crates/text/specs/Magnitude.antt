@@ -27,7 +27,8 @@ radix-bits : (radix : ℕ) → isRadix radix ≡ true → (radix ≡ 10 → ⊥)
 unfolding isRadix
 radix-bits radix h n = go (eqb radix 2) (eqb radix 8) (eqb radix 10) (eqb radix 16) refl refl refl refl h
   where
-    go : (a b c d : Bool) → eqb radix 2 ≡ a → eqb radix 8 ≡ b → eqb radix 10 ≡ c → eqb radix 16 ≡ d → (a || b || c || d) ≡ true → (radix ≡ 2) ⊎ (radix ≡ 8) ⊎ (radix ≡ 16)
+    go : (a b c d : Bool) → eqb radix 2 ≡ a → eqb radix 8 ≡ b → eqb radix 10 ≡ c → eqb radix 16 ≡ d → (a || b || c || d) ≡ true
+        → (radix ≡ 2) ⊎ (radix ≡ 8) ⊎ (radix ≡ 16)
     go true b c d e f g h t = inl (eqb-true radix 2 e)
     go false true c d e f g h t = inr (inl (eqb-true radix 8 f))
     go false false true d e f g h t = absurd (n (eqb-true radix 10 g))
@@ -63,7 +64,8 @@ module _ (t : List ℕ) (p : Parsed) (radix frac : ℕ) (h : Readable t p radix 
   unfolding writtenOf
   exp-small = omega (arith, sound-exp (h .sound), limit-le (p .down))
 
-  pub legal-bits : (radix ≡ 10 → ⊥) → Legal (part t (p .whole .from) (p .frac .to)) (p .whole .digits + p .frac .digits) (p .frac .digits) radix (p .base) (p .exp) frac
+  pub legal-bits : (radix ≡ 10 → ⊥) → Legal (part t (p .whole .from) (p .frac .to)) (p .whole .digits + p .frac .digits) (p .frac .digits) radix (p .base)
+      (p .exp) frac
   unfolding writtenOf
   legal-bits n =
       record {
@@ -80,14 +82,17 @@ module _ (t : List ℕ) (p : Parsed) (radix frac : ℕ) (h : Readable t p radix 
   pub legal-tens :
       radix ≡ 10 →
       (p .whole .digits + p .frac .digits ≡ length (bodyOf (part t (p .whole .from) (p .frac .to)))) × (p .frac .digits ≤ p .whole .digits + p .frac .digits)
-      × ((d : ℕ) → List·Memᴰ d (bodyOf (part t (p .whole .from) (p .frac .to))) → d < 10) × (p .exp ≤ 2147483648) × (frac ≤ 64) × (length (part t (p .whole .from) (p .frac .to)) ≤ textLimit)
+      × ((d : ℕ) → List·Memᴰ d (bodyOf (part t (p .whole .from) (p .frac .to))) → d < 10) × (p .exp ≤ 2147483648) × (frac ≤ 64)
+      × (length (part t (p .whole .from) (p .frac .to)) ≤ textLimit)
   legal-tens e = (digits-count, omega arith, λ d m. subst (λ (r : ℕ). d < r) e (digit-below d m), exp-small, h .room, body-short)
 
   -- the raw does not look at the sign
-  pub raw-bits : rawOf radix frac (asWritten (part t (p .whole .from) (p .frac .to)) (p .frac .digits) (p .base) (p .down) (p .exp)) ≡ rawOf radix frac (writtenOf t p)
+  pub raw-bits : rawOf radix frac (asWritten (part t (p .whole .from) (p .frac .to)) (p .frac .digits) (p .base) (p .down) (p .exp))
+      ≡ rawOf radix frac (writtenOf t p)
   unfolding rawOf num den writtenOf
   raw-bits =
-      ap₂ (λ (ds : List ℕ) (k : ℕ). nearestEven (natOf radix ds * cond (p .down) 1 (p .base ^ p .exp) * 2 ^ frac) (radix ^ k * cond (p .down) (p .base ^ p .exp) 1)) digits-same (h .ready .frac-counted)
+      ap₂ (λ (ds : List ℕ) (k : ℕ). nearestEven (natOf radix ds * cond (p .down) 1 (p .base ^ p .exp) * 2 ^ frac)
+      (radix ^ k * cond (p .down) (p .base ^ p .exp) 1)) digits-same (h .ready .frac-counted)
 
   -- a decimal exponent scales by ten; without a mark there is none
   ten-power : radix ≡ 10 → 10 ^ p .exp ≡ p .base ^ p .exp
@@ -99,9 +104,11 @@ module _ (t : List ℕ) (p : Parsed) (radix frac : ℕ) (h : Readable t p radix 
       go fraction z = ap (λ (k : ℕ). 10 ^ k) z ∙ sym (pow-zero (p .base)) ∙ sym (ap (λ (k : ℕ). p .base ^ k) z)
       go exponent z = ap (λ (b : ℕ). b ^ p .exp) (sym z)
 
-  pub raw-tens : radix ≡ 10 → rawOf 10 frac (decimal (bodyOf (part t (p .whole .from) (p .frac .to))) (p .frac .digits) (p .down) (p .exp)) ≡ rawOf radix frac (writtenOf t p)
+  pub raw-tens : radix ≡ 10 → rawOf 10 frac (decimal (bodyOf (part t (p .whole .from) (p .frac .to))) (p .frac .digits) (p .down) (p .exp))
+      ≡ rawOf radix frac (writtenOf t p)
   unfolding rawOf num den
   raw-tens e =
-      ap (λ (b : ℕ). nearestEven (natOf 10 (bodyOf (part t (p .whole .from) (p .frac .to))) * cond (p .down) 1 b * 2 ^ frac) (10 ^ p .frac .digits * cond (p .down) b 1)) (ten-power e)
+      ap (λ (b : ℕ). nearestEven (natOf 10 (bodyOf (part t (p .whole .from) (p .frac .to))) * cond (p .down) 1 b * 2 ^ frac)
+      (10 ^ p .frac .digits * cond (p .down) b 1)) (ten-power e)
       ∙ ap (λ (r : ℕ). rawOf r frac (asWritten (part t (p .whole .from) (p .frac .to)) (p .frac .digits) (p .base) (p .down) (p .exp))) (sym e)
       ∙ raw-bits

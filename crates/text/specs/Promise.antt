@@ -22,10 +22,12 @@ abbrev pub LiteralUnsigned : List ℕ → ℕ → ℕ → UnsignedAnswer → Typ
 LiteralUnsigned t w f r = r ≡ unsignedAnswer (literalOf unsigned w f t)
 
 module _ (t : List ℕ) (w f : ℕ) where
-  pub read-signed-unique : (radix : ℕ) (k : Manner) (r s : SignedAnswer) → ReadSigned t w f radix k r → ReadSigned t w f radix k s → r ≡ s
+  pub read-signed-unique : (radix : ℕ) (k : Manner) (r s : SignedAnswer) → ReadSigned t w f radix k r
+      → ReadSigned t w f radix k s → r ≡ s
   read-signed-unique radix k r s p q = unique p q
 
-  pub read-unsigned-unique : (radix : ℕ) (k : Manner) (r s : UnsignedAnswer) → ReadUnsigned t w f radix k r → ReadUnsigned t w f radix k s → r ≡ s
+  pub read-unsigned-unique : (radix : ℕ) (k : Manner) (r s : UnsignedAnswer) → ReadUnsigned t w f radix k r
+      → ReadUnsigned t w f radix k s → r ≡ s
   read-unsigned-unique radix k r s p q = unique p q
 
   pub literal-signed-unique : (r s : SignedAnswer) → LiteralSigned t w f r → LiteralSigned t w f s → r ≡ s

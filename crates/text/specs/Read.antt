@@ -46,24 +46,28 @@ early-unless n m o = go (eqb n 0) refl
     go true e = refl
     go false e = rw e
 
-pub plain-early : (k : Manner) (s : Sign) (w f radix : ℕ) (t : List ℕ) → unless (earlyPlain w f radix (length t)) (outcomeOf k s w f radix (plainReading radix t)) ≡ readOf k s w f radix t
+pub plain-early : (k : Manner) (s : Sign) (w f radix : ℕ) (t : List ℕ)
+    → unless (earlyPlain w f radix (length t)) (outcomeOf k s w f radix (plainReading radix t)) ≡ readOf k s w f radix t
 unfolding readOf earlyPlain textFault guarded
 plain-early k s w f radix t =
     early-unless (faultOf w f) (cond (isRadix radix) (cond (leb (length t) textLimit) 0 4) 3) (outcomeOf k s w f radix (plainReading radix t))
     ∙ ap (unless (faultOf w f)) (go (isRadix radix) (leb (length t) textLimit))
   where
-    go : (a b : Bool) → unless (cond a (cond b 0 4) 3) (outcomeOf k s w f radix (plainReading radix t)) ≡ cond a (cond b (outcomeOf k s w f radix (plainReading radix t)) (refused 4)) (refused 3)
+    go : (a b : Bool) → unless (cond a (cond b 0 4) 3) (outcomeOf k s w f radix (plainReading radix t))
+        ≡ cond a (cond b (outcomeOf k s w f radix (plainReading radix t)) (refused 4)) (refused 3)
     go true true = refl
     go true false = refl
     go false b = refl
 
-pub literal-early : (s : Sign) (w f : ℕ) (t : List ℕ) → unless (earlyLiteral w f (length t)) (outcomeOf Strict s w f (literalRadix s t) (literalReading s t)) ≡ literalOf s w f t
+pub literal-early : (s : Sign) (w f : ℕ) (t : List ℕ)
+    → unless (earlyLiteral w f (length t)) (outcomeOf Strict s w f (literalRadix s t) (literalReading s t)) ≡ literalOf s w f t
 unfolding literalOf earlyLiteral textFault guarded
 literal-early s w f t =
     early-unless (faultOf w f) (cond (leb (length t) textLimit) 0 4) (outcomeOf Strict s w f (literalRadix s t) (literalReading s t))
     ∙ ap (unless (faultOf w f)) (go (leb (length t) textLimit))
   where
-    go : (b : Bool) → unless (cond b 0 4) (outcomeOf Strict s w f (literalRadix s t) (literalReading s t)) ≡ cond b (outcomeOf Strict s w f (literalRadix s t) (literalReading s t)) (refused 4)
+    go : (b : Bool) → unless (cond b 0 4) (outcomeOf Strict s w f (literalRadix s t) (literalReading s t))
+        ≡ cond b (outcomeOf Strict s w f (literalRadix s t) (literalReading s t)) (refused 4)
     go true = refl
     go false = refl
 
@@ -104,7 +108,8 @@ pub plain-fine : (w f radix n : ℕ) → earlyPlain w f radix n ≡ 0 → Fine w
 unfolding earlyPlain textFault
 plain-fine w f radix n = go (eqb (faultOf w f) 0) (isRadix radix) (leb n textLimit) refl refl refl
   where
-    go : (a b c : Bool) → eqb (faultOf w f) 0 ≡ a → isRadix radix ≡ b → leb n textLimit ≡ c → _≡_ {A = ℕ} (cond a (cond b (cond c 0 4) 3) (faultOf w f)) 0 → Fine w f n × (b ≡ true)
+    go : (a b c : Bool) → eqb (faultOf w f) 0 ≡ a → isRadix radix ≡ b → leb n textLimit ≡ c → _≡_ {A = ℕ} (cond a (cond b (cond c 0 4) 3) (faultOf w f)) 0
+        → Fine w f n × (b ≡ true)
     go true true true x y z h = (fine-format w f n (eqb-true (faultOf w f) 0 x) z, refl)
     go true true false x y z h = absurd (omega arith)
     go true false c x y z h = absurd (omega arith)
@@ -169,7 +174,8 @@ module _ (k : Manner) (s : Sign) (w f radix : ℕ) (t : List ℕ) where
   unfolding foundOutcome
   by-refusal e = ap (foundOutcome k s w f radix t) e
 
-  pub settled-number : (p : Parsed) {m : Folded} {h : ℕ} → isWidth w ≡ true → m ≡ foldOf (rawOf radix f (writtenOf t p)) → h ≡ bit (m .over) → settle k s w (exact (p .neg) h (m .low)) ≡ numberOutcome k s w f radix t p
+  pub settled-number : (p : Parsed) {m : Folded} {h : ℕ} → isWidth w ≡ true → m ≡ foldOf (rawOf radix f (writtenOf t p)) → h ≡ bit (m .over)
+      → settle k s w (exact (p .neg) h (m .low)) ≡ numberOutcome k s w f radix t p
   unfolding numberOutcome
   settled-number p {m} width e q =
       ap (λ (b : ℕ). settle k s w (withSign (p .neg) (b * 2 ^ 64 + m .low))) q
@@ -183,9 +189,12 @@ sane-at-number {t} {radix} {frac} h e = sane-number (subst (Sane t radix frac) e
 module _ (s : Sign) (w f : ℕ) (t : List ℕ) {fault : ℕ} where
   module _ (radix : ℕ) (e : fault ≡ earlyPlain w f radix (length t)) where
     pub plain-refused : (k : Manner) → (fault ≡ 0 → ⊥) → readOf k s w f radix t ≡ refused fault
-    plain-refused k h = sym (plain-early k s w f radix t) ∙ unless-fault (earlyPlain w f radix (length t)) (outcomeOf k s w f radix (plainReading radix t)) (λ z. h (e ∙ z)) ∙ ap refused (sym e)
+    plain-refused k h =
+        sym (plain-early k s w f radix t) ∙ unless-fault (earlyPlain w f radix (length t)) (outcomeOf k s w f radix (plainReading radix t)) (λ z. h (e ∙ z))
+        ∙ ap refused (sym e)
 
-    pub plain-reads : (k : Manner) (found : Found) → fault ≡ 0 → Finds t found (plainReading radix t) → foundOutcome k s w f radix t found ≡ readOf k s w f radix t
+    pub plain-reads : (k : Manner) (found : Found) → fault ≡ 0 → Finds t found (plainReading radix t)
+        → foundOutcome k s w f radix t found ≡ readOf k s w f radix t
     plain-reads k found z h =
         found-outcome k s w f radix t found h
         ∙ sym (unless-none (earlyPlain w f radix (length t)) (outcomeOf k s w f radix (plainReading radix t)) (sym e ∙ z)) ∙ plain-early k s w f radix t
@@ -197,7 +206,9 @@ module _ (s : Sign) (w f : ℕ) (t : List ℕ) {fault : ℕ} where
 
   module _ (e : fault ≡ earlyLiteral w f (length t)) where
     pub literal-refused : (fault ≡ 0 → ⊥) → literalOf s w f t ≡ refused fault
-    literal-refused h = sym (literal-early s w f t) ∙ unless-fault (earlyLiteral w f (length t)) (outcomeOf Strict s w f (literalRadix s t) (literalReading s t)) (λ z. h (e ∙ z)) ∙ ap refused (sym e)
+    literal-refused h =
+        sym (literal-early s w f t) ∙ unless-fault (earlyLiteral w f (length t)) (outcomeOf Strict s w f (literalRadix s t) (literalReading s t))
+        (λ z. h (e ∙ z)) ∙ ap refused (sym e)
 
     pub literal-reads : {r : LiteralWritten} → fault ≡ 0 → FindsLiteral s t r → foundOutcome Strict s w f (r .radix) t (r .found) ≡ literalOf s w f t
     literal-reads {r} z h =

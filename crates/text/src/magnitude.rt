@@ -1,4 +1,5 @@
-// The magnitude of a number that the scanner found: its digits stand in one stretch of the text, and the radix says how they are taken.
+// The magnitude of a number that the scanner found: its digits stand in one stretch of
+// the text, and the radix says how they are taken.
 ghost use mathlib.Core.Path.{_≡_};
 ghost use Rattle.grammar.specs.Meaning.{rawOf};
 ghost use Rattle.scan.specs.Found.{writtenOf};

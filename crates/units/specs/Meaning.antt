@@ -1,5 +1,5 @@
--- Whole numbers of units, one line a rounding, and the two parts of a number, for both signs: the documentation of src/wrapping.rs. z is a number of
--- steps, and a unit m of them, which of a format is 2^F. Assumes nothing.
+-- Whole numbers of units, one line a rounding, and the two parts of a number, for both signs: the documentation of
+-- src/wrapping.rs. z is a number of steps, and a unit m of them, which of a format is 2^F. Assumes nothing.
 use mathlib.Core.Bool.{cond}
 use Prim.Native.Nat.{ℕ, suc, _+_, _*_, _/_, _%_, _^_}
 use lib.Dec.{eqb, ltb}
@@ -38,7 +38,7 @@ evenTo z m = bySize (λ (n : ℕ). nearestEven n m) z *ℤ pos m
 unfoldable pub intPart : ℕ → ℕ → ℤ → ℤ
 intPart w f a = cond (eqb f w) (pos 0) (floorTo a (2 ^ f))
 
--- "the returned fraction will be non-negative for negative numbers, except in the case where there are no integer bits, .. where the return value is
--- always equal to `self`"
+-- "the returned fraction will be non-negative for negative numbers, except in the case where there are no integer bits,
+-- .. where the return value is always equal to `self`"
 abbrev pub fracPart : ℕ → ℕ → ℤ → ℤ
 fracPart w f a = a -ℤ intPart w f a

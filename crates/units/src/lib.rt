@@ -86,7 +86,8 @@ fn power(k: u32) -> u64
     1u64 << k
 }
 
-// x less the greatest multiple of m that is not above it. Below zero the rest is counted from the other end, and from the magnitude less one.
+// x less the greatest multiple of m that is not above it. Below zero the rest is counted from
+// the other end, and from the magnitude less one.
 pub fn modulo(x: Number, m: u64) -> u64
     requires { ⌜ 0 < m ⌝ }
     ensures { λ r. ⌜ pos r ≡ numberOf x -ℤ floorTo (numberOf x) m ⌝ }

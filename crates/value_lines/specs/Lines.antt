@@ -55,7 +55,8 @@ module _ (file : List ℕ) (at : ℕ) {line : List ℕ} (here : at < length file
       whole ∙ rw (is, add-one, moved)
 
 -- ---- the value lines of a line and those after it
-pub value-more : (n : ℕ) (line : List ℕ) (lines : List (List ℕ)) → isValue line ≡ true → valuesFrom n (line ∷ lines) ≡ valueLine n line ∷ valuesFrom (n + 1) lines
+pub value-more : (n : ℕ) (line : List ℕ) (lines : List (List ℕ)) → isValue line ≡ true
+    → valuesFrom n (line ∷ lines) ≡ valueLine n line ∷ valuesFrom (n + 1) lines
 unfolding valuesFrom
 value-more n line lines e = rw e
 
@@ -69,7 +70,8 @@ unfolding valuesFrom
 count-any n m [] = refl
 count-any n m (line ∷ lines) = go (isValue line) refl (count-any (n + 1) (m + 1) lines)
   where
-    go : (b : Bool) → isValue line ≡ b → length (valuesFrom (n + 1) lines) ≡ length (valuesFrom (m + 1) lines) → length (valuesFrom n (line ∷ lines)) ≡ length (valuesFrom m (line ∷ lines))
+    go : (b : Bool) → isValue line ≡ b → length (valuesFrom (n + 1) lines) ≡ length (valuesFrom (m + 1) lines)
+        → length (valuesFrom n (line ∷ lines)) ≡ length (valuesFrom m (line ∷ lines))
     go true e h = ap length (value-more n line lines e) ∙ ap suc h ∙ sym (ap length (value-more m line lines e))
     go false e h = ap length (value-skip n line lines e) ∙ h ∙ sym (ap length (value-skip m line lines e))
 
@@ -117,7 +119,8 @@ passed-none file from =
     let z : from - from ≡ 0 = omega arith in
     rw z
 
-first-here : (file : List ℕ) (end : ℕ) → end < length file → (getD file end 0 ≡ lineFeed → ⊥) → firstLine (drop end file) ≡ getD file end 0 ∷ firstLine (drop (suc end) file)
+first-here : (file : List ℕ) (end : ℕ) → end < length file → (getD file end 0 ≡ lineFeed → ⊥)
+    → firstLine (drop end file) ≡ getD file end 0 ∷ firstLine (drop (suc end) file)
 unfolding firstLine
 first-here file end h ne = rw (drop-cons file end 0 h, ne-eqb (getD file end 0) lineFeed ne)
 

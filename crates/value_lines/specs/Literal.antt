@@ -32,7 +32,8 @@ pub literal-in : (line : List ℕ) (x : ℤ) (f : Bool) → literalOf signed 16 
 unfolding literalOf guarded faultOf isWidth
 literal-in line x f e = go (leb (length line) textLimit) e
   where
-    go : (t : Bool) → cond t (outcomeOf Strict signed 16 15 (literalRadix signed line) (literalReading signed line)) (refused 4) ≡ done x f → InRange signed 16 x
+    go : (t : Bool) → cond t (outcomeOf Strict signed 16 15 (literalRadix signed line) (literalReading signed line)) (refused 4) ≡ done x f
+        → InRange signed 16 x
     go true e = reading-in (literalRadix signed line) (literalReading signed line) x f e
     go false e = let z : _≡_ {A = ℕ} 0 1 = cc in absurd (omega arith)
 

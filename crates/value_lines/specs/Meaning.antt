@@ -45,7 +45,8 @@ valueLine n line = record { number = n; text = line }
 -- the value lines of some lines, the first of which has the number n
 unfoldable pub valuesFrom : ℕ → List (List ℕ) → List ValueLine
 valuesFrom n [] = []
-valuesFrom n (line ∷ lines) = cond (isValue line) (valueLine n line ∷ valuesFrom (n + 1) lines) (valuesFrom (n + 1) lines)
+valuesFrom n (line ∷ lines) =
+    cond (isValue line) (valueLine n line ∷ valuesFrom (n + 1) lines) (valuesFrom (n + 1) lines)
 
 unfoldable pub valuesOf : List ℕ → List ValueLine
 valuesOf file = valuesFrom 1 (linesOf file)

@@ -15,7 +15,8 @@ use Rattle.value_lines.specs.Lines.{firstLine, valuesAt, line-within, at
 use Rattle.value_lines.specs.Literal.{lineValue}
 
 -- what one line adds: nothing, or its number, raw and answer in place n
-pub record Entered (line : List ℕ) (number n : ℕ) (lines : List ℕ) (raws : List ℤ) (answers lines' : List ℕ) (raws' : List ℤ) (answers' : List ℕ) (next : ℕ) : Type 0 where
+pub record Entered (line : List ℕ) (number n : ℕ) (lines : List ℕ) (raws : List ℤ) (answers lines' : List ℕ) (raws' : List ℤ) (answers' : List ℕ)
+    (next : ℕ) : Type 0 where
   pub lines-are : lines' ≡ cond (isValue line) (set lines n number) lines
   pub raws-are : raws' ≡ cond (isValue line) (set raws n (lineValue line .raw)) raws
   pub answers-are : answers' ≡ cond (isValue line) (set answers n (lineValue line .answer)) answers
@@ -86,10 +87,12 @@ module _ (file lines : List ℕ) (raws : List ℤ) (answers lines' : List ℕ) (
   pub has-place : {line : List ℕ} → at < length file → line ≡ firstLine (drop at file) → isValue line ≡ true → n < length (valuesOf file)
   has-place here is e = next-here (valuesOf file) n _ _ (s .left ∙ at-value file at here is (number + 1) e) (s .few)
 
-  module _ (room : length (valuesOf file) ≤ length lines) (room-raws : length (valuesOf file) ≤ length raws) (room-answers : length (valuesOf file) ≤ length answers)
+  module _ (room : length (valuesOf file) ≤ length lines) (room-raws : length (valuesOf file) ≤ length raws)
+      (room-answers : length (valuesOf file) ≤ length answers)
       {line : List ℕ} (here : at < length file) (is : line ≡ firstLine (drop at file)) where
     more-value : isValue line ≡ true
-        → SoFar file lines raws answers (set lines' n (number + 1)) (set raws' n (lineValue line .raw)) (set answers' n (lineValue line .answer)) (n + 1) (number + 1) (at + (length line + 1))
+        → SoFar file lines raws answers (set lines' n (number + 1)) (set raws' n (lineValue line .raw)) (set answers' n (lineValue line .answer)) (n + 1)
+        (number + 1) (at + (length line + 1))
     unfolding rawAt numberAt lineValue
     more-value e =
         let left = s .left ∙ at-value file at here is (number + 1) e in

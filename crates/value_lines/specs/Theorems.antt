@@ -3,7 +3,8 @@
 use mathlib.Core.Path.{_≡_, refl, sym, ap, _∙_, subst}
 use mathlib.Core.Logic.{_⊎_, inl, inr}
 use mathlib.Core.Bool.{Bool, true, false, cond}
-use mathlib.Core.List.{List, [], _∷_, _++_, map, map-append, append-nil, append-assoc, List·Memᴰ, List·Memᴰ·head, List·Memᴰ·tail, List·Memᴰ·cases-cons, List·Memᴰ·not-nil}
+use mathlib.Core.List.{List, [], _∷_, _++_, map, map-append, append-nil, append-assoc, List·Memᴰ}
+use mathlib.Core.List.{List·Memᴰ·head, List·Memᴰ·tail, List·Memᴰ·cases-cons, List·Memᴰ·not-nil}
 use Prim.Native.Nat.{ℕ, suc, _+_, _-_, _≤_}
 use native.Mathlib.Omega.{arith}
 use lib.IntN.{pos}
@@ -51,7 +52,8 @@ pub lines-before : {lines : List (List ℕ)} (file : List ℕ) → NoFeeds lines
 unfolding joinedLines
 lines-before file none = refl
 lines-before file (more {line} {lines} h hs) =
-    ap linesOf (append-assoc line (lineFeed ∷ joinedLines lines) file) ∙ line-cut line (joinedLines lines ++ file) h ∙ ap (λ (l : List (List ℕ)). line ∷ l) (lines-before file hs)
+    ap linesOf (append-assoc line (lineFeed ∷ joinedLines lines) file) ∙ line-cut line (joinedLines lines ++ file) h
+    ∙ ap (λ (l : List (List ℕ)). line ∷ l) (lines-before file hs)
 
 pub lines-joined : {lines : List (List ℕ)} → NoFeeds lines → linesOf (joinedLines lines) ≡ lines
 unfolding linesOf
@@ -115,7 +117,8 @@ numbered-from n (line ∷ lines) v m = go (isValue line) (λ h. numbered-from (n
     either (inl e) = here e
     either (inr h) = later h
 
-    split : (v ≡ valueLine n line) ⊎ List·Memᴰ v (valuesFrom (n + 1) lines) → (List·Memᴰ v (valuesFrom (n + 1) lines) → Numbered (n + 1) lines v) → Numbered n (line ∷ lines) v
+    split : (v ≡ valueLine n line) ⊎ List·Memᴰ v (valuesFrom (n + 1) lines) → (List·Memᴰ v (valuesFrom (n + 1) lines) → Numbered (n + 1) lines v)
+        → Numbered n (line ∷ lines) v
     split (inl e) f = either (inl e)
     split (inr h) f = either (inr (f h))
 
@@ -189,11 +192,13 @@ module _ (lines : List (List ℕ)) (before : NoFeeds lines) (file : List ℕ) wh
         × (map numberAt (valuesOf (joinedLines lines ++ (skipped ++ lineFeed ∷ file))) ≡ map numberAt (valuesOf (joinedLines lines ++ file)))
     skipped-raws =
         raws-of (valuesOf (joinedLines lines ++ (skipped ++ lineFeed ∷ file))) (valuesOf (joinedLines lines ++ file))
-        (ap (map lineText) skipped-line ∙ map-append lineText first (map later rest) ∙ rw (later-text rest) (sym (ap (map lineText) cut ∙ map-append lineText first rest)))
+        (ap (map lineText) skipped-line ∙ map-append lineText first (map later rest)
+        ∙ rw (later-text rest) (sym (ap (map lineText) cut ∙ map-append lineText first rest)))
 
   -- One value line in place of another: no other value changes.
   pub changed-line : (line : List ℕ) → NoFeed line → isValue line ≡ true
-      → valuesOf (joinedLines lines ++ (line ++ lineFeed ∷ file)) ≡ first ++ valueLine (1 + length lines) line ∷ valuesFrom (1 + length lines + 1) (linesOf file)
+      → valuesOf (joinedLines lines ++ (line ++ lineFeed ∷ file)) ≡ first
+      ++ valueLine (1 + length lines) line ∷ valuesFrom (1 + length lines + 1) (linesOf file)
   unfolding valuesOf
   changed-line line whole value =
       let there = lines-before (line ++ lineFeed ∷ file) before ∙ ap (λ (l : List (List ℕ)). lines ++ l) (line-cut line file whole) in

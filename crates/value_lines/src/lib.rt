@@ -1,5 +1,5 @@
-// The value lines of a fitting file (01, module 9): how many there are, and the list of them, refused or not. A refused line ends no file. Inner
-// functions of the fitting file.
+// The value lines of a fitting file (01, module 9): how many there are, and the list of them, refused or not. A refused
+// line ends no file. Inner functions of the fitting file.
 ghost use mathlib.Core.Path.{_≡_};
 ghost use mathlib.Core.Bool.{true};
 ghost use Prim.Native.Nat.{_≤_, _<_};
@@ -38,7 +38,8 @@ fn enter(
     requires { ⌜ (isValue (now line) ≡ true → n < length (now lines)) ⌝ }
     requires { ⌜ (isValue (now line) ≡ true → n < length (now raws)) ⌝ }
     requires { ⌜ (isValue (now line) ≡ true → n < length (now answers)) ⌝ }
-    ensures { λ r. ⌜ Entered (now (line .entry)) number n (now (lines .entry)) (now (raws .entry)) (now (answers .entry)) (now (lines .exit)) (now (raws .exit)) (now (answers .exit)) r ⌝ }
+    ensures { λ r. ⌜ Entered (now (line .entry)) number n (now (lines .entry)) (now (raws .entry))
+        (now (answers .entry)) (now (lines .exit)) (now (raws .exit)) (now (answers .exit)) r ⌝ }
 {
     if line::is_value(line) {
         let value = line::read_value(line);
@@ -58,7 +59,8 @@ pub fn store(file: &[u8], lines: &mut [u32], raws: &mut [i16], answers: &mut [u3
     requires { ⌜ length (valuesOf (now file)) ≤ length (now lines) ⌝ }
     requires { ⌜ length (valuesOf (now file)) ≤ length (now raws) ⌝ }
     requires { ⌜ length (valuesOf (now file)) ≤ length (now answers) ⌝ }
-    ensures { λ _. ⌜ AllEntered (valuesOf (now (file .entry))) (now (lines .entry)) (now (raws .entry)) (now (answers .entry)) (now (lines .exit)) (now (raws .exit)) (now (answers .exit)) ⌝ }
+    ensures { λ _. ⌜ AllEntered (valuesOf (now (file .entry))) (now (lines .entry)) (now (raws .entry))
+        (now (answers .entry)) (now (lines .exit)) (now (raws .exit)) (now (answers .exit)) ⌝ }
 {
     let mut n: usize = 0;
     let mut number: u32 = 0;

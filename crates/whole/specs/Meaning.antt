@@ -1,6 +1,6 @@
--- Whole numbers of a format, one line an operation, for both signs: the documentation of src/wrapping.rs. The format's refusals, then the exact
--- result in the manner. a is a raw, so a unit is 2^F steps. An operand is the number that it is, also where the format could not hold it.
--- Assumes nothing.
+-- Whole numbers of a format, one line an operation, for both signs: the documentation of src/wrapping.rs. The format's
+-- refusals, then the exact result in the manner. a is a raw, so a unit is 2^F steps. An operand is the number that it
+-- is, also where the format could not hold it. Assumes nothing.
 use Prim.Native.Nat.{ℕ, _^_}
 use lib.IntN.{ℤ}
 use Rattle.format.specs.declared.Manner.{Manner}

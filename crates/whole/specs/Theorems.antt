@@ -25,7 +25,19 @@ ceil-above z m h =
     let q = floor (negℤ z) m in
     let facts = floor-out (negℤ z) m h in (
       omega (kit, facts, up-neg z, dn-neg z, up-neg q, dn-neg q, mul-out (negℤ q) m, ap (λ (n : ℕ). n * m) (up-neg q), ap (λ (n : ℕ). n * m) (dn-neg q)),
-      omega (kit, facts, up-neg z, dn-neg z, up-neg q, dn-neg q, mul-out (negℤ q) m, ap (λ (n : ℕ). n * m) (up-neg q), ap (λ (n : ℕ). n * m) (dn-neg q), add-out z (pos m)),
+      omega (
+        kit,
+        facts,
+        up-neg z,
+        dn-neg z,
+        up-neg q,
+        dn-neg q,
+        mul-out (negℤ q) m,
+        ap (λ (n : ℕ). n * m) (up-neg q),
+        ap (λ (n : ℕ). n * m) (dn-neg q),
+        add-out
+            z (pos m),
+      ),
     )
 
 -- ---- to the nearest: q units are at most half a unit from n, and at a tie they are the more
@@ -72,7 +84,15 @@ even-nearest z m h = rw (size-round (λ (n : ℕ). nearestEven n m) z) (nearest 
 pub round-sign : (f : ℕ → ℕ) (z : ℤ) → pos 0 ≤ℤ (bySize f z *ℤ z)
 unfolding bySize
 round-sign f (pos n) = omega kit
-round-sign f (negsuc n) = omega (kit, up-neg (pos (f (suc n))), up-mul (negℤ (pos (f (suc n)))) (negsuc n), dn-mul (negℤ (pos (f (suc n)))) (negsuc n), ap (λ (k : ℕ). k * suc n) (up-neg (pos (f (suc n)))))
+round-sign f (negsuc n) =
+    omega (
+      kit,
+      up-neg (pos (f (suc n))),
+      up-mul (negℤ (pos (f (suc n)))) (negsuc n),
+      dn-mul (negℤ (pos (f (suc n)))) (negsuc n),
+      ap (λ (k : ℕ). k * suc n)
+          (up-neg (pos (f (suc n)))),
+    )
 
 -- ---- the two parts make the number, and with integer bits the fraction is not negative and below one
 pub int-frac : (w f : ℕ) (a : ℤ) → intPart w f a +ℤ fracPart w f a ≡ a
@@ -80,4 +100,6 @@ int-frac w f a = let p = intPart w f a in omega (kit, sub-out a p, add-out p (a 
 
 pub frac-range : (w f : ℕ) (a : ℤ) → (f ≡ w → ⊥) → (pos 0 ≤ℤ fracPart w f a) × (fracPart w f a <ℤ pos (2 ^ f))
 unfolding intPart
-frac-range w f a h = rw (ne-eqb f w h) (let b = floor-below a (2 ^ f) (pow-pos f) in let p = floorTo a (2 ^ f) in (omega (kit, b .0, sub-out a p), omega (kit, b .1, sub-out a p, add-out p (pos (2 ^ f)))))
+frac-range w f a h =
+    rw (ne-eqb f w h) (let b = floor-below a (2 ^ f) (pow-pos f) in let p = floorTo a (2 ^ f) in
+    (omega (kit, b .0, sub-out a p), omega (kit, b .1, sub-out a p, add-out p (pos (2 ^ f)))))

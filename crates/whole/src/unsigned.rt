@@ -1,5 +1,6 @@
 // Whole numbers of an unsigned format.
-ghost use Rattle.whole.specs.Promise.{UnsignedFloor, UnsignedCeil, UnsignedRound, UnsignedEven, UnsignedInt, UnsignedFrac};
+ghost use Rattle.whole.specs.Promise.{UnsignedFloor, UnsignedCeil, UnsignedRound};
+ghost use Rattle.whole.specs.Promise.{UnsignedEven, UnsignedInt, UnsignedFrac};
 use format::Manner;
 use format::UnsignedAnswer;
 

@@ -16,7 +16,8 @@ pub record Carried (x y : Wide) (s q : ℕ) : Type 0 where
   pub whole : q * 2 ^ 64 + s ≡ x .low + y .low
 
 -- their sum wraps exactly if it comes out below one of them
-pub carried : {x y : Wide} {s q : ℕ} → x .low < 2 ^ 64 → y .low < 2 ^ 64 → s ≡ (x .low + y .low) % 2 ^ 64 → ((s < y .low) × (q ≡ 1)) ⊎ ((y .low ≤ s) × (q ≡ 0)) → Carried x y s q
+pub carried : {x y : Wide} {s q : ℕ} → x .low < 2 ^ 64 → y .low < 2 ^ 64 → s ≡ (x .low + y .low) % 2 ^ 64 → ((s < y .low) × (q ≡ 1)) ⊎ ((y .low ≤ s) × (q ≡ 0))
+    → Carried x y s q
 carried f g e (inl w) = record { whole = omega arith }
 carried f g e (inr w) = record { whole = omega arith }
 

@@ -39,6 +39,7 @@ module _ (a b a₀ b₀ : ℕ) (ea : a₀ ≡ a % 2 ^ 32) (eb : b₀ ≡ b % 2 ^
       let v : b / 2 ^ 32 * 2 ^ 32 + b₀ ≡ b = omega arith in
       sym (spread (2 ^ 32) a₀ (a / 2 ^ 32) b₀ (b / 2 ^ 32)) ∙ (λ i. u i * v i)
 
-  pub product : (m s r : ℕ) → m ≡ (a / 2 ^ 32 * b₀ + a₀ * b₀ / 2 ^ 32) % 2 ^ 32 → s ≡ (a / 2 ^ 32 * b₀ + a₀ * (b / 2 ^ 32)) % 2 ^ 64 → r ≡ (s * 2 ^ 32 % 2 ^ 64 + a₀ * b₀) % 2 ^ 64
+  pub product : (m s r : ℕ) → m ≡ (a / 2 ^ 32 * b₀ + a₀ * b₀ / 2 ^ 32) % 2 ^ 32 → s ≡ (a / 2 ^ 32 * b₀ + a₀ * (b / 2 ^ 32)) % 2 ^ 64
+      → r ≡ (s * 2 ^ 32 % 2 ^ 64 + a₀ * b₀) % 2 ^ 64
       → (a / 2 ^ 32 * (b / 2 ^ 32) + (a / 2 ^ 32 * b₀ + a₀ * b₀ / 2 ^ 32) / 2 ^ 32 + (m + a₀ * (b / 2 ^ 32)) / 2 ^ 32) * 2 ^ 64 + r ≡ a * b
   product m s r e f g = columns (a / 2 ^ 32 * (b / 2 ^ 32)) (a / 2 ^ 32 * b₀) (a₀ * (b / 2 ^ 32)) (a₀ * b₀) m s r e f g ∙ halves

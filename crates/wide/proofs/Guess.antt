@@ -43,7 +43,8 @@ module _ {h l d d₀ : ℕ} (given : Digit h l d d₀) where
   whole : h * 2 ^ 32 + l + back ≡ guess * d + there
   whole =
       let halves : d ≡ d / 2 ^ 32 * 2 ^ 32 + d₀ = omega arith in
-      let spread : guess * d ≡ guess * (d / 2 ^ 32) * 2 ^ 32 + back = ap (λ (x : ℕ). guess * x) halves ∙ mul-add guess (d / 2 ^ 32 * 2 ^ 32) d₀ ∙ ap (λ (x : ℕ). x + back) (sym (mul-assoc guess (d / 2 ^ 32) (2 ^ 32))) in
+      let spread : guess * d ≡ guess * (d / 2 ^ 32) * 2 ^ 32 + back = ap (λ (x : ℕ). guess * x) halves ∙ mul-add guess (d / 2 ^ 32 * 2 ^ 32) d₀
+      ∙ ap (λ (x : ℕ). x + back) (sym (mul-assoc guess (d / 2 ^ 32) (2 ^ 32))) in
       omega (arith, div-add-mod' h (d / 2 ^ 32))
 
   -- and there is less than d, so the guess is right where enough is there to take back
@@ -59,7 +60,9 @@ module _ {h l d d₀ : ℕ} (given : Digit h l d d₀) where
     guess-pos = lt-of-mul-lt-mul-right d {m = 0} {n = guess} (omega (arith, whole))
 
     pub one-less : back - there ≤ d → (record { quotient = guess - 1; rest = d - (back - there) }) ≡ divisionStep (h * 2 ^ 32 + l) d
-    one-less u = step-is (record { quotient = guess - 1; rest = d - (back - there) }) (h * 2 ^ 32 + l) d (omega (arith, whole, less-by 1 guess d guess-pos)) (omega arith)
+    one-less u =
+        step-is (record { quotient = guess - 1; rest = d - (back - there) }) (h * 2 ^ 32 + l) d (omega (arith, whole, less-by 1 guess d guess-pos))
+        (omega arith)
 
     module _ (u : d < back - there) where
       pub guess-more : 1 < guess
@@ -69,4 +72,6 @@ module _ {h l d d₀ : ℕ} (given : Digit h l d d₀) where
       rest-le = omega (arith, back-lt)
 
       pub two-less : (record { quotient = guess - 2; rest = d - (back - there - d) }) ≡ divisionStep (h * 2 ^ 32 + l) d
-      two-less = step-is (record { quotient = guess - 2; rest = d - (back - there - d) }) (h * 2 ^ 32 + l) d (omega (arith, whole, less-by 2 guess d guess-more, rest-le)) (omega (arith, rest-le))
+      two-less =
+          step-is (record { quotient = guess - 2; rest = d - (back - there - d) }) (h * 2 ^ 32 + l) d
+          (omega (arith, whole, less-by 2 guess d guess-more, rest-le)) (omega (arith, rest-le))

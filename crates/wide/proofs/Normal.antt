@@ -3,7 +3,8 @@
 use mathlib.Core.Path.{_≡_, sym, ap, _∙_, subst}
 use Prim.Native.Nat.{ℕ, suc, _+_, _*_, _/_, _%_, _^_, _≤_, _<_}
 use native.Mathlib.Omega.{arith}
-use native.Mathlib.Nat.{le-trans, le-of-eq, lt-of-le-of-lt, lt-of-lt-of-le, lt-trans, le-add-right, add-mul, mul-assoc, mul-right-comm, mul-le-mul-right, mul-lt-mul-of-pos-right, lt-of-mul-lt-mul-right, mul-div-cancel, mul-add-div-right, div-lt-iff-lt-mul, mod-eq-of-lt}
+use native.Mathlib.Nat.{le-trans, le-of-eq, lt-of-le-of-lt, lt-of-lt-of-le, lt-trans, le-add-right, add-mul, mul-assoc, mul-right-comm, mul-le-mul-right}
+use native.Mathlib.Nat.{mul-lt-mul-of-pos-right, lt-of-mul-lt-mul-right, mul-div-cancel, mul-add-div-right, div-lt-iff-lt-mul, mod-eq-of-lt}
 use lib.Arith.{digits-lt}
 use lib.Count.{leadingZeros, leading-top}
 use lib.Pow.{pow-pos, pow-add, shl-lt}
@@ -81,13 +82,16 @@ module _ {h l d k b : ℕ} {x : Wide} (given : Shifted h l d k b x) where
 
       digits : (s .quotient * 2 ^ 32 + t .quotient) * b + t .rest ≡ valueOf x
       digits =
-          let spread : (s .quotient * 2 ^ 32 + t .quotient) * b ≡ s .quotient * b * 2 ^ 32 + t .quotient * b = add-mul (s .quotient * 2 ^ 32) (t .quotient) b ∙ ap (λ (n : ℕ). n + t .quotient * b) (mul-right-comm (s .quotient) (2 ^ 32) b) in
+          let spread : (s .quotient * 2 ^ 32 + t .quotient) * b ≡ s .quotient * b * 2 ^ 32 + t .quotient * b = add-mul (s .quotient * 2 ^ 32) (t .quotient) b
+          ∙ ap (λ (n : ℕ). n + t .quotient * b) (mul-right-comm (s .quotient) (2 ^ 32) b) in
           omega (arith, told-whole (x .high * 2 ^ 32 + x .low / 2 ^ 32) b (one .is), told-whole (s .rest * 2 ^ 32 + m) b et)
 
       pub both : (record { quotient = s .quotient * 2 ^ 32 + t .quotient; rest = t .rest / 2 ^ k }) ≡ divisionStep (h * 2 ^ 64 + l) d
       both =
           let q : ℕ = s .quotient * 2 ^ 32 + t .quotient in
-          let scaled : q * d * 2 ^ k + t .rest ≡ (h * 2 ^ 64 + l) * 2 ^ k = ap (λ (n : ℕ). n + t .rest) (mul-assoc q d (2 ^ k) ∙ ap (λ (n : ℕ). q * n) (sym (given .by))) ∙ digits ∙ exact in
+          let scaled : q * d * 2 ^ k + t .rest
+          ≡ (h * 2 ^ 64 + l) * 2 ^ k = ap (λ (n : ℕ). n + t .rest) (mul-assoc q d (2 ^ k) ∙ ap (λ (n : ℕ). q * n) (sym (given .by))) ∙ digits ∙ exact in
           step-is (record { quotient = q; rest = t .rest / 2 ^ k }) (h * 2 ^ 64 + l) d
           (sym (mul-add-div-right {m = 2 ^ k} (pow-pos k) (q * d) (t .rest)) ∙ ap (λ (n : ℕ). n / 2 ^ k) scaled ∙ mul-div-cancel (h * 2 ^ 64 + l) (pow-pos k))
-          (div-lt-iff-lt-mul {k = 2 ^ k} {x = t .rest} {y = d} (pow-pos k) .1 (lt-of-lt-of-le (told-rest (s .rest * 2 ^ 32 + m) b et (omega (arith, b-top))) (le-of-eq (given .by))))
+          (div-lt-iff-lt-mul {k = 2 ^ k} {x = t .rest} {y = d} (pow-pos k) .1
+          (lt-of-lt-of-le (told-rest (s .rest * 2 ^ 32 + m) b et (omega (arith, b-top))) (le-of-eq (given .by))))

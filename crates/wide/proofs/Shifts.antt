@@ -3,7 +3,8 @@
 use mathlib.Core.Path.{_≡_, sym, ap, _∙_, subst}
 use Prim.Native.Nat.{ℕ, _+_, _-_, _*_, _/_, _%_, _^_, _≤_, _<_}
 use native.Mathlib.Omega.{arith}
-use native.Mathlib.Nat.{le-of-lt, lt-of-lt-of-le, add-mul, add-comm, zero-add, mul-assoc, mul-right-comm, div-add-mod', mod-eq-of-lt, div-eq-of-lt, mul-div-cancel, mul-div-mul-right, mul-add-div-right, mul-add-mod-self-right, mul-mod-left}
+use native.Mathlib.Nat.{le-of-lt, lt-of-lt-of-le, add-mul, add-comm, zero-add, mul-assoc, mul-right-comm, div-add-mod', mod-eq-of-lt}
+use native.Mathlib.Nat.{div-eq-of-lt, mul-div-cancel, mul-div-mul-right, mul-add-div-right, mul-add-mod-self-right, mul-mod-left}
 use lib.Pow.{pow-pos, pow-add, pow-mono, shr-lt, shr-shr, high, mod-pow-add}
 use lib.Bits.{bitOr, or-mod, or-shifted}
 use Rattle.laws.specs.Powers.{power-sub}
@@ -19,7 +20,8 @@ places h = omega arith
 cut : (a b m : ℕ) → a % m * b % m ≡ a * b % m
 cut a b m =
     sym
-    (ap (λ (x : ℕ). x * b % m) (sym (div-add-mod' a m)) ∙ ap (λ (x : ℕ). x % m) (add-mul (a / m * m) (a % m) b ∙ ap (λ (x : ℕ). x + a % m * b) (mul-right-comm (a / m) m b))
+    (ap (λ (x : ℕ). x * b % m) (sym (div-add-mod' a m))
+    ∙ ap (λ (x : ℕ). x % m) (add-mul (a / m * m) (a % m) b ∙ ap (λ (x : ℕ). x + a % m * b) (mul-right-comm (a / m) m b))
     ∙ mul-add-mod-self-right (a / m * b) m (a % m * b))
 
 -- two parts of a word that do not overlap
@@ -58,23 +60,30 @@ module _ (h l k : ℕ) where
     high-left : bitOr (h * 2 ^ k % 2 ^ 64) (l / 2 / 2 ^ (63 - k)) ≡ number h l * 2 ^ k / 2 ^ 64 % 2 ^ 64
     high-left =
         ap (λ (x : ℕ). bitOr (h * 2 ^ k % 2 ^ 64) x) spill ∙ joined h k (l / 2 ^ (64 - k)) (le-of-lt hk) spill-lt
-        ∙ ap (λ (x : ℕ). x % 2 ^ 64) (sym (ap (λ (x : ℕ). x / 2 ^ 64) spread ∙ mul-add-div-right {m = 2 ^ 64} (pow-pos 64) (h * 2 ^ k) (l * 2 ^ k) ∙ ap (λ (x : ℕ). h * 2 ^ k + x) spill-is))
+        ∙ ap (λ (x : ℕ). x % 2 ^ 64) (sym
+        (ap (λ (x : ℕ). x / 2 ^ 64) spread ∙ mul-add-div-right {m = 2 ^ 64} (pow-pos 64) (h * 2 ^ k) (l * 2 ^ k) ∙ ap (λ (x : ℕ). h * 2 ^ k + x) spill-is))
 
     pub left-bits : bitOr (h * 2 ^ k % 2 ^ 64) (l / 2 / 2 ^ (63 - k)) * 2 ^ 64 + l * 2 ^ k % 2 ^ 64 ≡ number h l * 2 ^ k % 2 ^ 128
     left-bits = cut-words (number h l * 2 ^ k) high-left low-left
 
     -- the quotient by words
     gather : number h l / 2 ^ k ≡ h * 2 ^ (64 - k) + l / 2 ^ k
-    gather = ap (λ (x : ℕ). (h * x + l) / 2 ^ k) (power-sub k 64 (le-of-lt hk)) ∙ ap (λ (x : ℕ). (x + l) / 2 ^ k) (sym (mul-assoc h (2 ^ (64 - k)) (2 ^ k))) ∙ mul-add-div-right {m = 2 ^ k} (pow-pos k) (h * 2 ^ (64 - k)) l
+    gather =
+        ap (λ (x : ℕ). (h * x + l) / 2 ^ k) (power-sub k 64 (le-of-lt hk)) ∙ ap (λ (x : ℕ). (x + l) / 2 ^ k) (sym (mul-assoc h (2 ^ (64 - k)) (2 ^ k)))
+        ∙ mul-add-div-right {m = 2 ^ k} (pow-pos k) (h * 2 ^ (64 - k)) l
 
     low-right : bitOr (h * 2 % 2 ^ 64 * 2 ^ (63 - k) % 2 ^ 64) (l / 2 ^ k) ≡ number h l / 2 ^ k % 2 ^ 64
     low-right =
         ap (λ (x : ℕ). bitOr x (l / 2 ^ k))
-        (cut (h * 2) (2 ^ (63 - k)) (2 ^ 64) ∙ ap (λ (x : ℕ). x % 2 ^ 64) (mul-assoc h 2 (2 ^ (63 - k)) ∙ ap (λ (x : ℕ). h * x) (sym (pow-add 2 1 (63 - k)) ∙ ap (λ (x : ℕ). 2 ^ x) (places hk))))
+        (cut (h * 2) (2 ^ (63 - k)) (2 ^ 64)
+        ∙ ap (λ (x : ℕ). x % 2 ^ 64) (mul-assoc h 2 (2 ^ (63 - k))
+        ∙ ap (λ (x : ℕ). h * x) (sym (pow-add 2 1 (63 - k)) ∙ ap (λ (x : ℕ). 2 ^ x) (places hk))))
         ∙ joined h (64 - k) (l / 2 ^ k) (omega arith) (upper-lt (64 - k) k fl (omega arith)) ∙ ap (λ (x : ℕ). x % 2 ^ 64) (sym gather)
 
     high-right : h / 2 ^ k ≡ number h l / 2 ^ k / 2 ^ 64
-    high-right = ap (λ (x : ℕ). x / 2 ^ k) (sym (high h 64 fl)) ∙ shr-shr (number h l) 64 k ∙ ap (λ (x : ℕ). number h l / 2 ^ x) (add-comm 64 k) ∙ sym (shr-shr (number h l) k 64)
+    high-right =
+        ap (λ (x : ℕ). x / 2 ^ k) (sym (high h 64 fl)) ∙ shr-shr (number h l) 64 k ∙ ap (λ (x : ℕ). number h l / 2 ^ x) (add-comm 64 k)
+        ∙ sym (shr-shr (number h l) k 64)
 
     pub right-bits : h / 2 ^ k * 2 ^ 64 + bitOr (h * 2 % 2 ^ 64 * 2 ^ (63 - k) % 2 ^ 64) (l / 2 ^ k) ≡ number h l / 2 ^ k
     right-bits = (λ i. high-right i * 2 ^ 64 + low-right i) ∙ div-add-mod' (number h l / 2 ^ k) (2 ^ 64)
@@ -91,12 +100,16 @@ module _ (h l k : ℕ) (hk : 64 ≤ k) where
       (sym (ap (λ (x : ℕ). x % 2 ^ 64) whole ∙ mul-mod-left (number h l * 2 ^ (k - 64)) (2 ^ 64)))
 
   pub right-word : l < 2 ^ 64 → 0 + h / 2 ^ (k - 64) ≡ number h l / 2 ^ k
-  right-word fl = zero-add (h / 2 ^ (k - 64)) ∙ ap (λ (x : ℕ). x / 2 ^ (k - 64)) (sym (high h 64 fl)) ∙ shr-shr (number h l) 64 (k - 64) ∙ ap (λ (x : ℕ). number h l / 2 ^ x) (omega arith)
+  right-word fl =
+      zero-add (h / 2 ^ (k - 64)) ∙ ap (λ (x : ℕ). x / 2 ^ (k - 64)) (sym (high h 64 fl)) ∙ shr-shr (number h l) 64 (k - 64)
+      ∙ ap (λ (x : ℕ). number h l / 2 ^ x) (omega arith)
 
 -- by 128 places and more
 module _ (v k : ℕ) (hk : 128 ≤ k) where
   pub left-none : 0 ≡ v * 2 ^ k % 2 ^ 128
-  left-none = sym (ap (λ (x : ℕ). v * x % 2 ^ 128) (power-sub 128 k hk) ∙ ap (λ (x : ℕ). x % 2 ^ 128) (sym (mul-assoc v (2 ^ (k - 128)) (2 ^ 128))) ∙ mul-mod-left (v * 2 ^ (k - 128)) (2 ^ 128))
+  left-none =
+      sym (ap (λ (x : ℕ). v * x % 2 ^ 128) (power-sub 128 k hk) ∙ ap (λ (x : ℕ). x % 2 ^ 128) (sym (mul-assoc v (2 ^ (k - 128)) (2 ^ 128)))
+      ∙ mul-mod-left (v * 2 ^ (k - 128)) (2 ^ 128))
 
   pub right-none : v < 2 ^ 128 → 0 ≡ v / 2 ^ k
   right-none f = sym (div-eq-of-lt (lt-of-lt-of-le f (pow-mono hk)))

@@ -1,4 +1,5 @@
--- What two words stand for: document 01, "pairs of 64-bit words for the decimal group, product and quotient". Assumes nothing.
+-- What two words stand for: document 01, "pairs of 64-bit words for the decimal
+-- group, product and quotient". Assumes nothing.
 use Prim.Native.Nat.{ℕ, _+_, _*_, _^_, _<_}
 use Rattle.wide.specs.declared.Wide.{Wide}
 

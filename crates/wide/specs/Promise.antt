@@ -1,4 +1,5 @@
--- What each function promises, by name: an equation between the numbers that the words stand for. Each settles its answer (`unique`). Assumes nothing.
+-- What each function promises, by name: an equation between the numbers that the words stand for. Each
+-- settles its answer (`unique`). Assumes nothing.
 use mathlib.Core.Path.{_≡_, sym, _∙_}
 use mathlib.Core.Bool.{Bool}
 use Prim.Native.Nat.{ℕ, _+_, _-_, _*_, _/_, _%_, _^_}
@@ -61,7 +62,8 @@ module _ {r s : Wide} (v : Words r) (w : Words s) where
 pub less-unique : {r s : Bool} (x y : Wide) → Less x y r → Less x y s → r ≡ s
 less-unique x y p q = p ∙ sym q
 
-pub div-unique : {r s : Quotient} (x : Wide) (d : ℕ) → Words (r .quotient) → Words (s .quotient) → Divided x d r → Divided x d s → r ≡ s
+pub div-unique : {r s : Quotient} (x : Wide) (d : ℕ) → Words (r .quotient) → Words (s .quotient) → Divided x d r
+    → Divided x d s → r ≡ s
 div-unique x d v w p q =
     let e = same-value v w (p .quotient ∙ sym (q .quotient)) in
     let f = p .rest ∙ sym (q .rest) in

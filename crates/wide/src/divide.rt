@@ -31,9 +31,10 @@ pub(crate) fn word(x: u64, d: u64) -> Step
     }
 }
 
-// One digit of a quotient, for a divisor with its top bit set. The upper half of d alone gives a guess, which is the digit or
-// up to two above it. `there` is what the guess leaves, and `back` the guess times the half of d that it forgot, which is to be
-// taken from that. Where there is too little, the guess was too high, and each d that is given back makes it one less.
+// One digit of a quotient, for a divisor with its top bit set. The upper half of d alone gives a guess,
+// which is the digit or up to two above it. `there` is what the guess leaves, and `back` the guess times the
+// half of d that it forgot, which is to be taken from that. Where there is too little, the guess was too
+// high, and each d that is given back makes it one less.
 fn digit(high: u64, low: u64, d: u64) -> Step
     requires { ⌜ (2 ^ 63 ≤ d) × (high < d) × (low < 2 ^ 32) ⌝ }
     ensures { λ r. ⌜ r ≡ divisionStep (high * 2 ^ 32 + low) d ⌝ }
@@ -60,8 +61,8 @@ fn digit(high: u64, low: u64, d: u64) -> Step
     }
 }
 
-// A number of two words by d, for an upper word below d, so that the quotient is one word. Both are shifted until d has its
-// top bit set, which leaves the quotient as it is; the rest is shifted back.
+// A number of two words by d, for an upper word below d, so that the quotient is one word. Both are shifted until d has
+// its top bit set, which leaves the quotient as it is; the rest is shifted back.
 pub(crate) fn words(high: u64, low: u64, d: u64) -> Step
     requires { ⌜ high < d ⌝ }
     ensures { λ r. ⌜ r ≡ divisionStep (high * 2 ^ 64 + low) d ⌝ }

@@ -1,5 +1,5 @@
-// Numbers of up to 128 bits as two words of 64: what S does with `u128` and src/int256.rs, at the width that reading, arithmetic
-// and conversion need. Inner functions: the crates above meet what they require.
+// Numbers of up to 128 bits as two words of 64: what S does with `u128` and src/int256.rs, at the width that reading,
+// arithmetic and conversion need. Inner functions: the crates above meet what they require.
 ghost use Prim.Native.Nat.{_+_, _*_, _^_, _≤_, _<_};
 ghost use Rattle.wide.specs.Meaning.{valueOf};
 ghost use Rattle.wide.specs.Promise.{Product, Sum, Difference, Less, Divided, ShiftedLeft, ShiftedRight, Scaled};
@@ -21,8 +21,9 @@ pub struct Quotient {
 // The bits of the lower half of a word.
 const HALF: u64 = 0xffff_ffff;
 
-// a * b. Each word is cut into halves, so that each of the four products fits a word. The upper word adds the columns with
-// their carries, as in multiplying by hand; the lower word lets them wrap. This shape compiles to one multiplication.
+// a * b. Each word is cut into halves, so that each of the four products fits a word. The upper
+// word adds the columns with their carries, as in multiplying by hand; the lower word lets them
+// wrap. This shape compiles to one multiplication.
 pub fn mul(a: u64, b: u64) -> Wide
     ensures { λ r. ⌜ Product a b r ⌝ }
 {
@@ -77,8 +78,8 @@ pub fn less(x: Wide, y: Wide) -> bool
     x.high < y.high
 }
 
-// x / d and x % d. One machine division where x is one word; else the upper word first, and what that leaves goes before the
-// lower word into the second step.
+// x / d and x % d. One machine division where x is one word; else the upper word first, and what that leaves
+// goes before the lower word into the second step.
 pub fn div(x: Wide, d: u64) -> Quotient
     requires { ⌜ 0 < d ⌝ }
     ensures { λ r. ⌜ Divided x d r ⌝ }

@@ -23,7 +23,8 @@ use Rattle.decimal.specs.Form.{none as no-digit, more as one-digit}
 use Rattle.decimal.specs.Theorems.{text-length, write-read}
 use Rattle.filter.specs.Meaning.{mostTaps}
 use Rattle.filter.specs.Range.{sample-sfits}
-use Rattle.value_lines.specs.Meaning.{fileLimit, lineFeed, hash, isValue, ValueLine, valueLine, valuesFrom, valuesOf, answerOf, lineNumber, rawAt, numberAt, over, linesOf}
+use Rattle.value_lines.specs.Meaning.{fileLimit, lineFeed, hash, isValue, ValueLine, valueLine, valuesFrom}
+use Rattle.value_lines.specs.Meaning.{valuesOf, answerOf, lineNumber, rawAt, numberAt, over, linesOf}
 use Rattle.value_lines.specs.Lines.{value-more}
 use Rattle.value_lines.specs.Theorems.{NoFeeds, none, more, joinedLines, lines-joined}
 use Rattle.fitting.specs.declared.FileAnswer.the-variants.{Done}
@@ -179,7 +180,8 @@ values n (one-raw {r} {rs} h hs) =
 
 -- What is written reads back: with room for the raws, of which there are 1 to 64, the answer is done, and raws and taps hold the raws.
 module _ (rs : List ℤ) (range : Raws rs) (some : 1 ≤ length rs) (few : length rs ≤ mostTaps) (lines : List ℕ) (raws : List ℤ) (answers : List ℕ) (taps : List ℤ)
-    (same-raws : length lines ≡ length raws) (same-answers : length lines ≡ length answers) (room : length rs ≤ length lines) (taps-room : length rs ≤ length taps) where
+    (same-raws : length lines ≡ length raws) (same-answers : length lines ≡ length answers) (room : length rs ≤ length lines)
+    (taps-room : length rs ≤ length taps) where
   abbrev vs : List ValueLine
   vs = valuesOf (writtenFile rs)
 

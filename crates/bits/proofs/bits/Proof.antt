@@ -17,7 +17,15 @@ mul-step : tie.Need-mul-step
 mul-step c = record { fits = omega (arith, step-small (c .before .before .before .pre) (c .log22 .ensures .1)) }
 
 add-scaled : tie.Need-add-scaled
-add-scaled c = record { fits = omega (arith, places-small (c .before .before .before .before .pre) (c .before .before .log2 .ensures .1), step-small (c .before .before .before .before .pre) (c .before .log22 .ensures .1)) }
+add-scaled c =
+    record {
+      fits = omega (
+        arith,
+        places-small (c .before .before .before .before .pre) (c .before .before .log2 .ensures .1),
+        step-small
+            (c .before .before .before .before .pre) (c .before .log22 .ensures .1),
+      );
+    }
 
 scaled-requires : tie.Need-scaled-requires
 scaled-requires c κs = legal-digits (c .before .before .before .before .pre) (c .before .before .log2 .ensures)
@@ -27,10 +35,19 @@ returns c =
     let a = c .before .before .before .before .before .args in
     let width = c .before .before .before .log2 in
     let step = c .before .before .log22 in
-    down-done (a .body .now) (a .after) (a .radix) (a .base) (a .exp) (a .frac) (width .result) (step .result) (width .ensures .0) (step .ensures .0) (c .before .if1 .taken) (c .scaled .ensures)
+    down-done (a .body .now) (a .after) (a .radix) (a .base) (a .exp) (a .frac) (width .result) (step .result) (width .ensures .0) (step .ensures .0)
+    (c .before .if1 .taken) (c .scaled .ensures)
 
 add-scaled-2 : tie.Need-add-scaled-2
-add-scaled-2 c = record { fits = omega (arith, c .before .before .before .before .pre .room, step-small (c .before .before .before .before .pre) (c .before .log22 .ensures .1)) }
+add-scaled-2 c =
+    record {
+      fits = omega (
+        arith,
+        c .before .before .before .before .pre .room,
+        step-small (c .before .before .before .before .pre)
+            (c .before .log22 .ensures .1),
+      );
+    }
 
 scaled-requires-2 : tie.Need-scaled-requires-2
 scaled-requires-2 c κs = legal-digits (c .before .before .before .before .pre) (c .before .before .log2 .ensures)
@@ -40,7 +57,8 @@ returns-2 c =
     let a = c .before .before .before .before .before .args in
     let width = c .before .before .before .log2 in
     let step = c .before .before .log22 in
-    up-done (a .body .now) (a .after) (a .radix) (a .base) (a .exp) (a .frac) (width .result) (step .result) (width .ensures .0) (step .ensures .0) (c .before .if1 .left) (c .scaled2 .ensures)
+    up-done (a .body .now) (a .after) (a .radix) (a .base) (a .exp) (a .frac) (width .result) (step .result) (width .ensures .0) (step .ensures .0)
+    (c .before .if1 .left) (c .scaled2 .ensures)
 
 pub bits-spec : {M : Type 1} → statement M
 bits-spec =

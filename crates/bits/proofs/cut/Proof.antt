@@ -14,7 +14,12 @@ power-requires : tie.Need-power-requires
 power-requires c κs = search needs
 
 fold-digits-requires : tie.Need-fold-digits-requires
-fold-digits-requires c κs = (omega (arith, c .power .ensures, pow-pos (c .before .before .args .width)), omega arith, omega (arith, c .before .before .pre .0 .count, c .before .before .pre .1))
+fold-digits-requires c κs = (
+  omega (arith, c .power .ensures, pow-pos (c .before .before .args .width)),
+  omega arith,
+  omega
+      (arith, c .before .before .pre .0 .count, c .before .before .pre .1),
+)
 
 next-digit-requires : tie.Need-next-digit-requires
 next-digit-requires c κs = search needs
@@ -32,7 +37,13 @@ shr-times : tie.Need-shr-times
 shr-times c = search needs
 
 times-requires : tie.Need-times-requires
-times-requires c κs = omega (arith, c .before .power2 .ensures, pow-pos (c .before .before .before .before .before .before .before .args .width - c .before .before .before .before .before .before .before .args .c))
+times-requires c κs =
+    omega (
+      arith,
+      c .before .power2 .ensures,
+      pow-pos
+          (c .before .before .before .before .before .before .before .args .width - c .before .before .before .before .before .before .before .args .c),
+    )
 
 half-requires : tie.Need-half-requires
 half-requires c κs = search needs
@@ -47,10 +58,12 @@ returns c =
     let head = c .before .before .before .before .before .before .before .fold-digits in
     let digit = c .before .before .before .before .before .before .next-digit in
     cut-done (a .body .now) (a .n) (a .width) (a .count) (a .c) (s .pre .0) (s .pre .1) (s .pre .2) (s .pre .3)
-    (subst (λ (m : ℕ). Taken (a .body .now) 0 (a .count) m (head .result .number) (head .result .at)) (c .before .before .before .before .before .before .before .before .power .ensures) (head .ensures))
+    (subst (λ (m : ℕ). Taken (a .body .now) 0 (a .count) m (head .result .number) (head .result .at))
+    (c .before .before .before .before .before .before .before .before .power .ensures) (head .ensures))
     (digit .ensures)
     (c .before .before .before .before .before .any-nonzero .ensures)
-    (c .before .before .times .ensures ∙ ap (λ (m : ℕ). foldOf (foldedValue (head .result .number) * m + digit .result .digit / 2 ^ a .c)) (c .before .before .before .before .power2 .ensures))
+    (c .before .before .times .ensures ∙ ap (λ (m : ℕ). foldOf (foldedValue (head .result .number) * m + digit .result .digit / 2 ^ a .c))
+    (c .before .before .before .before .power2 .ensures))
     (c .before .half .ensures)
     (c .rounded .ensures)
 

@@ -13,7 +13,8 @@ power-requires : tie.Need-power-requires
 power-requires c κs = search needs
 
 fold-digits-requires : tie.Need-fold-digits-requires
-fold-digits-requires c κs = (omega (arith, c .power .ensures, pow-pos (c .before .before .before .args .width)), omega arith, omega (arith, c .before .before .before .pre .count))
+fold-digits-requires c κs =
+    (omega (arith, c .power .ensures, pow-pos (c .before .before .before .args .width)), omega arith, omega (arith, c .before .before .before .pre .count))
 
 scaled-requires : tie.Need-scaled-requires
 scaled-requires c κs = search needs

@@ -39,7 +39,8 @@ returns-2 c =
     let e = k .before .before .before .before in
     let f = e .before in
     let s = f .before .before .before in
-    put-copied (textOf (s .args .neg) (s .args .magnitude) (s .args .frac)) (s .args .out .now) (f .fill .ensures) (e .if1 .left) (k .copy .ensures .0) (k .copy .ensures .1)
+    put-copied (textOf (s .args .neg) (s .args .magnitude) (s .args .frac)) (s .args .out .now) (f .fill .ensures) (e .if1 .left) (k .copy .ensures .0)
+    (k .copy .ensures .1)
 
 pub put-spec : {M : Type 1} → statement M
 put-spec =

@@ -14,7 +14,9 @@ sub-result : tie.Need-sub-result
 sub-result c = search needs
 
 returns : tie.Need-returns
-returns c = sign-minus (c .before .args .neg) (c .before .args .at) (c .before .args .text .now) (c .before .pre .2) (c .if1 .taken) (c .before .pre .0) (c .before .pre .1)
+returns c =
+    sign-minus (c .before .args .neg) (c .before .args .at) (c .before .args .text .now) (c .before .pre .2) (c .if1 .taken) (c .before .pre .0)
+    (c .before .pre .1)
 
 returns-2 : tie.Need-returns-2
 returns-2 c = sign-none (c .before .args .neg) (c .before .args .at) (c .before .args .text .now) (c .before .pre .2) (c .if1 .left)

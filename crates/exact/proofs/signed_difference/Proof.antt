@@ -1,4 +1,5 @@
--- `exact::signed_difference` meets its contract: a signed word holds the difference of two small numbers (`difference-fits`); else by `sum` of the number with the other sign. Assumes nothing.
+-- `exact::signed_difference` meets its contract: a signed word holds the difference of two small numbers (`difference-fits`);
+-- else by `sum` of the number with the other sign. Assumes nothing.
 use mathlib.Core.Path.{_∙_, ap₂}
 use native.Mathlib.Omega.{arith}
 use mir.Syntax.{w64}
@@ -17,7 +18,8 @@ of-signed-requires-2 c κs = search needs
 
 sub-of-signed : tie.Need-sub-of-signed
 sub-of-signed c =
-    difference-fits _ _ _ _ (c .before .before .before .before .before .of-signed .ensures) (c .before .before .before .before .of-signed2 .ensures) (omega arith) (omega arith)
+    difference-fits _ _ _ _ (c .before .before .before .before .before .of-signed .ensures) (c .before .before .before .before .of-signed2 .ensures)
+    (omega arith) (omega arith)
 
 of-signed-requires-3 : tie.Need-of-signed-requires-3
 of-signed-requires-3 c κs = search needs
@@ -28,7 +30,8 @@ of-number-requires c κs = search needs
 returns : tie.Need-returns
 returns c =
     let fits = c .before .before .before .before .before .before .before .before .fits in
-    c .of-number .ensures ∙ c .before .of-signed3 .ensures ∙ toZ-ofZ {w = w64} (sub-of-signed (c .before .before)) ∙ ap₂ _-ℤ_ (toZ-ofZ {w = w64} (fits .a)) (toZ-ofZ {w = w64} (fits .b))
+    c .of-number .ensures ∙ c .before .of-signed3 .ensures ∙ toZ-ofZ {w = w64} (sub-of-signed (c .before .before))
+    ∙ ap₂ _-ℤ_ (toZ-ofZ {w = w64} (fits .a)) (toZ-ofZ {w = w64} (fits .b))
 
 negated-requires : tie.Need-negated-requires
 negated-requires c κs = search needs

@@ -20,7 +20,8 @@ of-signed-requires-2 c κs = search needs
 
 mul-of-signed : tie.Need-mul-of-signed
 mul-of-signed c =
-    product-fits _ _ _ _ (c .before .before .before .before .before .before .of-signed .ensures) (c .before .before .before .before .before .of-signed2 .ensures) (omega arith) (omega arith)
+    product-fits _ _ _ _ (c .before .before .before .before .before .before .of-signed .ensures)
+    (c .before .before .before .before .before .of-signed2 .ensures) (omega arith) (omega arith)
 
 cast-of-signed : tie.Need-cast-of-signed
 cast-of-signed c = search needs
@@ -38,7 +39,8 @@ returns : tie.Need-returns
 returns c =
     let start = c .before .before .before .before .before .before .before .before .before in
     let m = 2 ^ start .args .frac in
-    c .of-number .ensures ∙ c .before .of-signed3 .ensures ∙ shifted-back m (mul-of-signed (c .before .before)) ∙ ap₂ (λ (x y : ℤ). floor (x *ℤ y) m) (toZ-ofZ {w = w64} (start .fits .a)) (toZ-ofZ {w = w64} (start .fits .b))
+    c .of-number .ensures ∙ c .before .of-signed3 .ensures ∙ shifted-back m (mul-of-signed (c .before .before))
+    ∙ ap₂ (λ (x y : ℤ). floor (x *ℤ y) m) (toZ-ofZ {w = w64} (start .fits .a)) (toZ-ofZ {w = w64} (start .fits .b))
 
 product-requires : tie.Need-product-requires
 product-requires c κs = search needs
@@ -47,7 +49,8 @@ returns-2 : tie.Need-returns-2
 returns-2 c =
     let fits = c .before .before .before .before .before .fits in
     let f = c .before .before .before .before .before .args .frac in
-    via₂ (λ (x y : ℤ). floor (x *ℤ y) (2 ^ f)) (c .before .before .before .before .of-signed .ensures ∙ toZ-ofZ {w = w64} (fits .a)) (c .before .before .before .of-signed2 .ensures ∙ toZ-ofZ {w = w64} (fits .b)) (c .product .ensures)
+    via₂ (λ (x y : ℤ). floor (x *ℤ y) (2 ^ f)) (c .before .before .before .before .of-signed .ensures ∙ toZ-ofZ {w = w64} (fits .a))
+    (c .before .before .before .of-signed2 .ensures ∙ toZ-ofZ {w = w64} (fits .b)) (c .product .ensures)
 
 pub signed-product-spec : {M : Type 1} → statement M
 signed-product-spec =

@@ -17,7 +17,8 @@ of-signed-requires-2 c κs = search needs
 
 add-of-signed : tie.Need-add-of-signed
 add-of-signed c =
-    sum-fits _ _ _ _ (c .before .before .before .before .before .of-signed .ensures) (c .before .before .before .before .of-signed2 .ensures) (omega arith) (omega arith)
+    sum-fits _ _ _ _ (c .before .before .before .before .before .of-signed .ensures) (c .before .before .before .before .of-signed2 .ensures) (omega arith)
+    (omega arith)
 
 of-signed-requires-3 : tie.Need-of-signed-requires-3
 of-signed-requires-3 c κs = search needs
@@ -28,7 +29,8 @@ of-number-requires c κs = search needs
 returns : tie.Need-returns
 returns c =
     let fits = c .before .before .before .before .before .before .before .before .fits in
-    c .of-number .ensures ∙ c .before .of-signed3 .ensures ∙ toZ-ofZ {w = w64} (add-of-signed (c .before .before)) ∙ ap₂ _+ℤ_ (toZ-ofZ {w = w64} (fits .a)) (toZ-ofZ {w = w64} (fits .b))
+    c .of-number .ensures ∙ c .before .of-signed3 .ensures ∙ toZ-ofZ {w = w64} (add-of-signed (c .before .before))
+    ∙ ap₂ _+ℤ_ (toZ-ofZ {w = w64} (fits .a)) (toZ-ofZ {w = w64} (fits .b))
 
 sum-requires : tie.Need-sum-requires
 sum-requires c κs = search needs
@@ -36,7 +38,8 @@ sum-requires c κs = search needs
 returns-2 : tie.Need-returns-2
 returns-2 c =
     let fits = c .before .before .before .before .before .fits in
-    via₂ _+ℤ_ (c .before .before .before .before .of-signed .ensures ∙ toZ-ofZ {w = w64} (fits .a)) (c .before .before .before .of-signed2 .ensures ∙ toZ-ofZ {w = w64} (fits .b)) (c .sum .ensures)
+    via₂ _+ℤ_ (c .before .before .before .before .of-signed .ensures ∙ toZ-ofZ {w = w64} (fits .a))
+    (c .before .before .before .of-signed2 .ensures ∙ toZ-ofZ {w = w64} (fits .b)) (c .sum .ensures)
 
 pub signed-sum-spec : {M : Type 1} → statement M
 signed-sum-spec =

@@ -20,21 +20,29 @@ returns : tie.Need-returns
 unfolding fittedOf roomyOf
 returns c =
     let a = c .before .before .before .before .before .args in
-    refused-first _ _ _ (a .file .now) (a .lines .now) (a .raws .now) (a .answers .now) (a .taps .now) (c .before .check .ensures) (not-done (c .before .check .result) (c .match .keys2))
+    refused-first _ _ _ (a .file .now) (a .lines .now) (a .raws .now) (a .answers .now) (a .taps .now) (c .before .check .ensures)
+    (not-done (c .before .check .result) (c .match .keys2))
 
 store-requires : tie.Need-store-requires
 store-requires c κs =
-    let a = c .before .before .before .before .before .before .before .before .before .before .args in
-    let k = checked-done _ _ _ (a .file .now) (a .lines .now) (a .raws .now) (a .answers .now) (a .taps .now) (c .before .before .before .before .before .before .check .ensures) (c .before .before .before .before .checked .given .1) in
+    let checked = c .before .before .before .before in
+    let call = checked .before .before in
+    let a = call .before .before .before .before .args in
+    let k = checked-done _ _ _ (a .file .now) (a .lines .now) (a .raws .now) (a .answers .now) (a .taps .now) (call .check .ensures) (checked .checked .given .1) in
     (k .room .short, (k .room .lines-room, (k .room .raws-room, k .room .answers-room)))
 
 judge-requires : tie.Need-judge-requires
 judge-requires c κs =
-    let a = c .before .before .before .before .before .before .before .before .before .before .before .before .before .before .before .before .before .before .args in
-    let k = checked-done _ _ _ (a .file .now) (a .lines .now) (a .raws .now) (a .answers .now) (a .taps .now) (c .before .before .before .before .before .before .before .before .before .before .before .before .before .before .check .ensures) (c .before .before .before .before .before .before .before .before .before .before .before .before .checked .given .1) in
-    let st = c .before .before .before .before .before .before .before .store .ensures in
-    let vs = valuesOf (a .file .now) in
-    (omega (arith, k .count, ap length (st .lines-are), over-long lineNumber vs (a .lines .now)), omega (arith, k .count, ap length (st .answers-are), over-long numberAt vs (a .answers .now)))
+    let stored = c .before .before .before .before .before .before .before in
+    let checked = stored .before .before .before .before .before in
+    let call = checked .before .before in
+    let a = call .before .before .before .before .args in
+    let k = checked-done _ _ _ (a .file .now) (a .lines .now) (a .raws .now) (a .answers .now) (a .taps .now) (call .check .ensures) (checked .checked .given .1) in
+    let st = stored .store .ensures in
+    let vs = valuesOf (a .file .now) in (
+      omega (arith, k .count, ap length (st .lines-are), over-long lineNumber vs (a .lines .now)),
+      omega (arith, k .count, ap length (st .answers-are), over-long numberAt vs (a .answers .now)),
+    )
 
 enum-known-judged : tie.Need-enum-known-judged
 enum-known-judged c = search needs
@@ -51,17 +59,26 @@ same-length-3 c = search needs
 returns-2 : tie.Need-returns-2
 unfolding fittedOf roomyOf
 returns-2 c =
-    let a = c .before .before .before .before .before .before .before .before .before .before .before .before .before .before .before .before .before .before .before .before .args in
-    let k = checked-done _ _ _ (a .file .now) (a .lines .now) (a .raws .now) (a .answers .now) (a .taps .now) (c .before .before .before .before .before .before .before .before .before .before .before .before .before .before .before .before .check .ensures) (c .before .before .before .before .before .before .before .before .before .before .before .before .before .before .checked .given .1) in
-    refused-line _ _ _ (a .file .now) (a .lines .now) (a .raws .now) (a .answers .now) (a .taps .now) k (c .before .before .before .before .before .before .before .before .before .store .ensures) (c .before .judge .ensures) (not-done (c .before .judge .result) (c .match2 .keys2))
+    let stored = c .before .before .before .before .before .before .before .before .before in
+    let checked = stored .before .before .before .before .before in
+    let call = checked .before .before in
+    let a = call .before .before .before .before .args in
+    let k = checked-done _ _ _ (a .file .now) (a .lines .now) (a .raws .now) (a .answers .now) (a .taps .now) (call .check .ensures) (checked .checked .given .1) in
+    refused-line _ _ _ (a .file .now) (a .lines .now) (a .raws .now) (a .answers .now) (a .taps .now) k (stored .store .ensures)
+    (c .before .judge .ensures) (not-done (c .before .judge .result) (c .match2 .keys2))
 
 keep-requires : tie.Need-keep-requires
 keep-requires c κs =
-    let a = c .before .before .before .before .before .before .before .before .before .before .before .before .before .before .before .before .before .before .before .before .before .before .before .before .args in
-    let k = checked-done _ _ _ (a .file .now) (a .lines .now) (a .raws .now) (a .answers .now) (a .taps .now) (c .before .before .before .before .before .before .before .before .before .before .before .before .before .before .before .before .before .before .before .before .check .ensures) (c .before .before .before .before .before .before .before .before .before .before .before .before .before .before .before .before .before .before .checked .given .1) in
-    let st = c .before .before .before .before .before .before .before .before .before .before .before .before .before .store .ensures in
+    let judged = c .before .before .before in
+    let judging = judged .before .before in
+    let stored = judging .before .before .before .before .before .before .before .before in
+    let checked = stored .before .before .before .before .before in
+    let call = checked .before .before in
+    let a = call .before .before .before .before .args in
+    let k = checked-done _ _ _ (a .file .now) (a .lines .now) (a .raws .now) (a .answers .now) (a .taps .now) (call .check .ensures) (checked .checked .given .1) in
+    let st = stored .store .ensures in
     let vs = valuesOf (a .file .now) in
-    let same = done-count _ _ _ (a .file .now) (a .lines .now) (a .raws .now) (a .answers .now) (a .taps .now) k st (c .before .before .before .before .before .judge .ensures) (c .before .before .before .judged .given .1) in
+    let same = done-count _ _ _ (a .file .now) (a .lines .now) (a .raws .now) (a .answers .now) (a .taps .now) k st (judging .judge .ensures) (judged .judged .given .1) in
     (omega (arith, same, ap length (st .raws-are), over-long rawAt vs (a .raws .now)), omega (arith, same, k .room .taps-room))
 
 same-length-4 : tie.Need-same-length-4
@@ -79,9 +96,15 @@ same-length-7 c = search needs
 returns-3 : tie.Need-returns-3
 unfolding fittedOf roomyOf
 returns-3 c =
-    let a = c .before .before .before .before .before .before .before .before .before .before .before .before .before .before .before .before .before .before .before .before .before .before .before .before .before .before .args in
-    let k = checked-done _ _ _ (a .file .now) (a .lines .now) (a .raws .now) (a .answers .now) (a .taps .now) (c .before .before .before .before .before .before .before .before .before .before .before .before .before .before .before .before .before .before .before .before .before .before .check .ensures) (c .before .before .before .before .before .before .before .before .before .before .before .before .before .before .before .before .before .before .before .before .checked .given .1) in
-    all-done _ _ _ (a .file .now) (a .lines .now) (a .raws .now) (a .answers .now) (a .taps .now) k (c .before .before .before .before .before .before .before .before .before .before .before .before .before .before .before .store .ensures) (c .before .before .before .before .before .before .before .judge .ensures) (c .before .before .before .before .before .judged .given .1) (c .before .keep .ensures)
+    let judged = c .before .before .before .before .before in
+    let judging = judged .before .before in
+    let stored = judging .before .before .before .before .before .before .before .before in
+    let checked = stored .before .before .before .before .before in
+    let call = checked .before .before in
+    let a = call .before .before .before .before .args in
+    let k = checked-done _ _ _ (a .file .now) (a .lines .now) (a .raws .now) (a .answers .now) (a .taps .now) (call .check .ensures) (checked .checked .given .1) in
+    all-done _ _ _ (a .file .now) (a .lines .now) (a .raws .now) (a .answers .now) (a .taps .now) k (stored .store .ensures)
+    (judging .judge .ensures) (judged .judged .given .1) (c .before .keep .ensures)
 
 pub read-spec : {M : Type 1} → statement M
 read-spec =

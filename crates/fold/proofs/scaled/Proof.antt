@@ -24,7 +24,8 @@ returns-2 : tie.Need-returns-2
 returns-2 c = scale-over (c .before .before .args .x) (c .before .before .args .k) (c .before .if1 .left) refl (c .if2 .taken) refl
 
 returns-3 : tie.Need-returns-3
-returns-3 c = scale-under (c .before .before .before .args .x) (c .before .before .before .args .k) (c .before .before .if1 .left) refl (c .before .if2 .left) refl
+returns-3 c =
+    scale-under (c .before .before .before .args .x) (c .before .before .before .args .k) (c .before .before .if1 .left) refl (c .before .if2 .left) refl
 
 pub scaled-spec : {M : Type 1} → statement M
 scaled-spec =

@@ -10,7 +10,8 @@ mul-requires c κs = search needs
 add-requires : tie.Need-add-requires
 add-requires c κs =
     let s = c .before in
-    words-fit (c .mul .result .high) (c .mul .result .low) (s .args .a) (s .args .m) (s .args .d) (s .fits .a .fits) (s .fits .m .fits) (s .fits .d .fits) (c .mul .ensures)
+    words-fit (c .mul .result .high) (c .mul .result .low) (s .args .a) (s .args .m) (s .args .d) (s .fits .a .fits) (s .fits .m .fits) (s .fits .d .fits)
+    (c .mul .ensures)
 
 returns : tie.Need-returns
 returns c = search needs

@@ -26,7 +26,8 @@ returns c =
     let e = c .before .before .before .int-of .ensures in
     let n = c .before .ilog10 .result in
     let k : c .minus .result ≡ pos n = omega (orders, c .minus .ensures, sub-out (pos n) (pos 0)) in
-    ok-back w64 (c .minus .result) (c .minus .ok) ∙ k ∙ whole-log (a .args .raw) (a .args .frac) (a .pre .0) (a .fits .raw .fits) (a .pre .1) n (rw e at (c .before .ilog10 .ensures))
+    ok-back w64 (c .minus .result) (c .minus .ok) ∙ k
+    ∙ whole-log (a .args .raw) (a .args .frac) (a .pre .0) (a .fits .raw .fits) (a .pre .1) n (rw e at (c .before .ilog10 .ensures))
 
 frac-of-requires : tie.Need-frac-of-requires
 frac-of-requires c κs =
@@ -45,7 +46,8 @@ returns-2 c =
     let e = c .before .before .frac-of .ensures in
     let m = c .before .frac-log10 .result in
     let k : c .minus2 .result ≡ negℤ (pos m) = omega (orders, c .minus2 .ensures, sub-out (pos 0) (pos m), up-neg (pos m), dn-neg (pos m)) in
-    ok-back w64 (c .minus2 .result) (c .minus2 .ok) ∙ k ∙ frac-log (a .args .raw) (a .args .frac) (a .pre .0) (a .fits .raw .fits) (a .pre .1) m (rw e at (c .before .frac-log10 .ensures))
+    ok-back w64 (c .minus2 .result) (c .minus2 .ok) ∙ k
+    ∙ frac-log (a .args .raw) (a .args .frac) (a .pre .0) (a .fits .raw .fits) (a .pre .1) m (rw e at (c .before .frac-log10 .ensures))
 
 pub of-positive-spec : {M : Type 1} → statement M
 of-positive-spec =

@@ -17,7 +17,8 @@ returns : tie.Need-returns
 returns c =
     let a = c .before .before .before .before .args in
     let q = c .before .before .before .floor .result in
-    in-steps (2 ^ a .frac) (turned (q .neg) (a .y .neg) (q .size) (a .y .size) (numberOf (a .x)) (c .before .before .before .before .pre .0) (c .before .before .before .floor .ensures)) (c .shifted-left .ensures)
+    in-steps (2 ^ a .frac) (turned (q .neg) (a .y .neg) (q .size) (a .y .size) (numberOf (a .x)) (c .before .before .before .before .pre .0)
+    (c .before .before .before .floor .ensures)) (c .shifted-left .ensures)
 
 pub div-euclid-spec : {M : Type 1} → statement M
 div-euclid-spec = tie.close (tie.spec floor-requires shifted-left-requires returns)

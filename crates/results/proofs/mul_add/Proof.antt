@@ -23,7 +23,9 @@ add-requires c κs =
     let a = c .before .before .before .before .args in
     let q = c .floor .result in
     let p = c .before .before .before .mul .result in
-    room (q .neg) (not (Bool·beq (a .x .neg) (a .y .neg))) (q .high * 2 ^ 64 + q .low) (p .high * 2 ^ 64 + p .low) (a .x .size) (a .y .size) (2 ^ a .frac) (c .floor .ensures) (c .before .before .before .mul .ensures) (c .before .before .struct-known .given .1 .0 .fits) (c .before .struct-known2 .given .1 .0 .fits)
+    room (q .neg) (not (Bool·beq (a .x .neg) (a .y .neg))) (q .high * 2 ^ 64 + q .low) (p .high * 2 ^ 64 + p .low) (a .x .size) (a .y .size) (2 ^ a .frac)
+    (c .floor .ensures) (c .before .before .before .mul .ensures) (c .before .before .struct-known .given .1 .0 .fits)
+    (c .before .struct-known2 .given .1 .0 .fits)
 
 returns : tie.Need-returns
 returns c =

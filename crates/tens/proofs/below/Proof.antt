@@ -27,7 +27,8 @@ returns : tie.Need-returns
 returns c =
     let s = c .before .before .before .before in
     let taken = c .before .fold-digits .ensures in
-    below-some (bodyOf (s .args .body .now)) (s .pre .1) (s .args .frac) (s .pre .2) (s .args .places) (s .args .n) (s .pre .0) (c .before .before .if1 .taken) (taken .rest) (taken .folded) (c .beside .ensures)
+    below-some (bodyOf (s .args .body .now)) (s .pre .1) (s .args .frac) (s .pre .2) (s .args .places) (s .args .n) (s .pre .0) (c .before .before .if1 .taken)
+    (taken .rest) (taken .folded) (c .beside .ensures)
 
 sub-zeros : tie.Need-sub-zeros
 sub-zeros c = search needs

@@ -43,7 +43,8 @@ returns c =
     let ds = digitsAt (s .args .body .now) (s .args .from) in
     beside-folded (replicate (s .args .zeros) 0 ++ ds) (small-zeros (s .args .zeros) ds (s .pre .2)) (s .args .frac) (s .pre .4) (foldedValue (s .args .whole))
     (first .first .result) (first .first .ensures) (c .before .before .before .before .side .ensures)
-    (c .before .before .before .scaled .ensures) (sum .add .ensures) (c .add2 .ensures ∙ ap (λ (n : ℕ). foldOf (foldedValue (sum .add .result) + n)) (c .before .carry .ensures))
+    (c .before .before .before .scaled .ensures) (sum .add .ensures)
+    (c .add2 .ensures ∙ ap (λ (n : ℕ). foldOf (foldedValue (sum .add .result) + n)) (c .before .carry .ensures))
 
 pub beside-spec : {M : Type 1} → statement M
 beside-spec =

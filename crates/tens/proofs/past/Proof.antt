@@ -17,7 +17,8 @@ scaled-requires c κs = search needs
 returns : tie.Need-returns
 returns c =
     let s = c .before .before .before .before in
-    past-folded (bodyOf (s .args .body .now)) (s .args .n) (s .args .zeros) (s .args .frac) (s .pre) (c .before .before .fold-digits .ensures .folded) (c .before .lifted .ensures) (c .scaled .ensures)
+    past-folded (bodyOf (s .args .body .now)) (s .args .n) (s .args .zeros) (s .args .frac) (s .pre) (c .before .before .fold-digits .ensures .folded)
+    (c .before .lifted .ensures) (c .scaled .ensures)
 
 pub past-spec : {M : Type 1} → statement M
 past-spec = tie.close (tie.spec fold-digits-requires lifted-requires scaled-requires returns)

@@ -18,7 +18,9 @@ less-requires : tie.Need-less-requires
 less-requires c κs = search needs
 
 returns : tie.Need-returns
-returns c = twice-above (2 ^ c .before .before .before .before .args .frac) (c .less .ensures) (c .before .before .scaled .ensures) (c .before .before .before .rest .ensures) (c .before .scaled2 .ensures)
+returns c =
+    twice-above (2 ^ c .before .before .before .before .args .frac) (c .less .ensures) (c .before .before .scaled .ensures)
+    (c .before .before .before .rest .ensures) (c .before .scaled2 .ensures)
 
 pub above-half-spec : {M : Type 1} → statement M
 above-half-spec =

@@ -27,7 +27,8 @@ of-number-requires-2 c κs = search needs
 returns-2 : tie.Need-returns-2
 returns-2 c =
     let a = c .before .before .before .before .before .args in
-    frac-some (a .width) (a .frac) (numberOf (a .x)) (c .before .before .before .before .if1 .left) (c .before .before .before .power .ensures .0) (c .of-number2 .ensures ∙ c .before .of-unsigned .ensures ∙ c .before .before .modulo .ensures)
+    frac-some (a .width) (a .frac) (numberOf (a .x)) (c .before .before .before .before .if1 .left) (c .before .before .before .power .ensures .0)
+    (c .of-number2 .ensures ∙ c .before .of-unsigned .ensures ∙ c .before .before .modulo .ensures)
 
 pub frac-spec : {M : Type 1} → statement M
 frac-spec =

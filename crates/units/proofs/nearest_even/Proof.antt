@@ -22,18 +22,30 @@ above-half-requires c κs = search needs
 add-result : tie.Need-add-result
 add-result c =
     let a = c .before .before .before .before .before .args in
-    omega (arith, one-more (a .size) (2 ^ a .frac) (c .before .before .before .before .quotient .ensures) (c .before .before .before .below-half .ensures) (pow-pos (a .frac)) (c .before .before .if1 .left))
+    omega (
+      arith,
+      one-more (a .size) (2 ^ a .frac) (c .before .before .before .before .quotient .ensures) (c .before .before .before .below-half .ensures)
+          (pow-pos (a .frac)) (c .before .before .if1 .left),
+    )
 
 returns-2 : tie.Need-returns-2
-returns-2 c = even-above _ _ (c .before .before .before .before .quotient .ensures) (c .before .before .before .below-half .ensures) (c .before .above-half .ensures) (c .before .before .if1 .left) (c .if2 .taken)
+returns-2 c =
+    even-above _ _ (c .before .before .before .before .quotient .ensures) (c .before .before .before .below-half .ensures) (c .before .above-half .ensures)
+    (c .before .before .if1 .left) (c .if2 .taken)
 
 add-result-2 : tie.Need-add-result-2
 add-result-2 c =
     let a = c .before .before .before .before .before .args in
-    omega (arith, one-more (a .size) (2 ^ a .frac) (c .before .before .before .before .quotient .ensures) (c .before .before .before .below-half .ensures) (pow-pos (a .frac)) (c .before .before .if1 .left))
+    omega (
+      arith,
+      one-more (a .size) (2 ^ a .frac) (c .before .before .before .before .quotient .ensures) (c .before .before .before .below-half .ensures)
+          (pow-pos (a .frac)) (c .before .before .if1 .left),
+    )
 
 returns-3 : tie.Need-returns-3
-returns-3 c = even-tie _ _ (c .before .before .before .before .quotient .ensures) (c .before .before .before .below-half .ensures) (c .before .above-half .ensures) (c .before .before .if1 .left) (c .if2 .left)
+returns-3 c =
+    even-tie _ _ (c .before .before .before .before .quotient .ensures) (c .before .before .before .below-half .ensures) (c .before .above-half .ensures)
+    (c .before .before .if1 .left) (c .if2 .left)
 
 pub nearest-even-spec : {M : Type 1} → statement M
 nearest-even-spec =

@@ -17,7 +17,8 @@ returns : tie.Need-returns
 returns c =
     let a = c .before .before .args in
     let m = 2 ^ a .frac in
-    in-steps m (by-size (λ (n : ℕ). nearestAway n m) (a .x .neg) (a .x .size) (away-none m (pow-pos (a .frac))) (c .before .nearest-away .ensures)) (c .shifted-left .ensures)
+    in-steps m (by-size (λ (n : ℕ). nearestAway n m) (a .x .neg) (a .x .size) (away-none m (pow-pos (a .frac))) (c .before .nearest-away .ensures))
+    (c .shifted-left .ensures)
 
 pub round-spec : {M : Type 1} → statement M
 round-spec = tie.close (tie.spec nearest-away-requires shifted-left-requires returns)

@@ -17,7 +17,8 @@ returns : tie.Need-returns
 returns c =
     let a = c .before .before .args in
     let m = 2 ^ a .frac in
-    in-steps m (by-size (λ (n : ℕ). nearestEven n m) (a .x .neg) (a .x .size) (even-none m (pow-pos (a .frac))) (c .before .nearest-even .ensures)) (c .shifted-left .ensures)
+    in-steps m (by-size (λ (n : ℕ). nearestEven n m) (a .x .neg) (a .x .size) (even-none m (pow-pos (a .frac))) (c .before .nearest-even .ensures))
+    (c .shifted-left .ensures)
 
 pub round-ties-even-spec : {M : Type 1} → statement M
 round-ties-even-spec = tie.close (tie.spec nearest-even-requires shifted-left-requires returns)

@@ -31,17 +31,29 @@ add-n c = search needs
 add-at : tie.Need-add-at Inv-loop μ-loop
 add-at c =
     let a = c .before .before .before .before .before .before .args in
-    omega (arith, line-within (a .file .now) (c .before .before .before .before .loop .at) (c .before .before .before .loop-test .taken) (c .before .before .line-at .ensures))
+    omega (
+      arith,
+      line-within (a .file .now) (c .before .before .before .before .loop .at) (c .before .before .before .loop-test .taken)
+          (c .before .before .line-at .ensures),
+    )
 
 add-at-2 : tie.Need-add-at-2 Inv-loop μ-loop
 add-at-2 c =
     let a = c .before .before .before .before .before .before .args in
-    omega (arith, line-within (a .file .now) (c .before .before .before .before .loop .at) (c .before .before .before .loop-test .taken) (c .before .before .line-at .ensures))
+    omega (
+      arith,
+      line-within (a .file .now) (c .before .before .before .before .loop .at) (c .before .before .before .loop-test .taken)
+          (c .before .before .line-at .ensures),
+    )
 
 loop-less : tie.Need-loop-less Inv-loop μ-loop
 loop-less c =
     let a = c .before .before .before .before .before .before .args in
-    omega (arith, line-within (a .file .now) (c .before .before .before .before .loop .at) (c .before .before .before .loop-test .taken) (c .before .before .line-at .ensures))
+    omega (
+      arith,
+      line-within (a .file .now) (c .before .before .before .before .loop .at) (c .before .before .before .loop-test .taken)
+          (c .before .before .line-at .ensures),
+    )
 
 loop-again : tie.Need-loop-again Inv-loop μ-loop
 loop-again c =

@@ -33,7 +33,8 @@ enter-requires c κs =
     let line = c .before .before .before .line-at .ensures in
     let p = c .before .before .before .before .before .before .before .before .before .pre in
     let s = l .inv in
-    let has = has-place (a .file .now) (a .lines .now) (a .raws .now) (a .answers .now) (l .lines) (l .raws) (l .answers) (l .n) (l .number) (l .at) s here line in
+    let has = has-place (a .file .now) (a .lines .now) (a .raws .now) (a .answers .now) (l .lines) (l .raws) (l .answers) (l .n) (l .number) (l .at) s here
+    line in
     (λ e. omega (arith, has e, p, s .lines-hold .long), (λ e. omega (arith, has e, p, s .raws-hold .long), λ e. omega (arith, has e, p, s .answers-hold .long)))
 
 add-at : tie.Need-add-at Inv-loop μ-loop
@@ -83,7 +84,8 @@ returns : tie.Need-returns Inv-loop μ-loop
 returns c =
     let a = c .before .before .before .before .before .args in
     let l = c .before .loop in
-    end (a .file .now) (a .lines .now) (a .raws .now) (a .answers .now) (l .lines) (l .raws) (l .answers) (l .n) (l .number) (l .at) (l .inv) (c .loop-test .left)
+    end (a .file .now) (a .lines .now) (a .raws .now) (a .answers .now) (l .lines) (l .raws) (l .answers) (l .n) (l .number) (l .at) (l .inv)
+    (c .loop-test .left)
 
 pub store-spec : {M : Type 1} → statement M
 store-spec =

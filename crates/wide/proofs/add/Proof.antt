@@ -5,7 +5,8 @@ use Rattle.wide.proofs.Carry.{Carried, carried, sum, sum-fits, part-fit
 use Rattle.wide.proofs.add.Statement.{statement}
 use Rattle.wide.proofs.add.Tie as tie
 
-lower : (c : tie.After-struct-known3) → Carried (c .before .before .before .before .before .args .x) (c .before .before .before .before .before .args .y) (c .before .before .before .before .wrapping-add-u64 .result) (c .before .before .if1 .carry)
+lower : (c : tie.After-struct-known3) → Carried (c .before .before .before .before .before .args .x) (c .before .before .before .before .before .args .y)
+    (c .before .before .before .before .wrapping-add-u64 .result) (c .before .before .if1 .carry)
 lower c =
     carried (c .before .struct-known2 .given .1 .0 .fits) (c .struct-known3 .given .1 .0 .fits) (c .before .before .before .before .wrapping-add-u64 .ensures)
     (⊎-elim (λ w. inl (w .0 .taken, w .1)) (λ w. inr (w .0 .left, w .1)) (c .before .before .if1 .came))

@@ -39,7 +39,10 @@ returns-2 c =
     right-word (s .args .x .high) (s .args .x .low) (s .args .k) (c .before .before .if1 .left) (c .struct-known4 .given .1 .0 .fits)
 
 returns-3 : tie.Need-returns-3
-returns-3 c = right-none (valueOf (c .before .before .args .x)) (c .before .before .args .k) (c .if2 .left) (value-lt {x = c .before .before .args .x} (record { high = omega arith; low = omega arith }))
+returns-3 c = right-none (valueOf (c .before .before .args .x)) (c .before .before .args .k) (c .if2 .left) (value-lt {x = c .before .before .args .x} (record {
+  high = omega arith;
+  low = omega arith;
+}))
 
 pub shr-spec : {M : Type 1} → statement M
 shr-spec =

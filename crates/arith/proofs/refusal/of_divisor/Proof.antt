@@ -21,7 +21,8 @@ returns-2 c =
 returns-3 : tie.Need-returns-3
 returns-3 c =
     let y = c .before .before .before .before .args .y in
-    or-second _ (c .before .before .before .check .ensures) (c .before .before .if1 .left) (divisor-some _ (λ z. c .if2 .left (sym (abs-sign (y .neg) (y .size)) ∙ z)))
+    or-second _ (c .before .before .before .check .ensures) (c .before .before .if1 .left)
+    (divisor-some _ (λ z. c .if2 .left (sym (abs-sign (y .neg) (y .size)) ∙ z)))
 
 pub of-divisor-spec : {M : Type 1} → statement M
 of-divisor-spec = tie.close (tie.spec check-requires returns returns-2 returns-3)

@@ -20,7 +20,8 @@ returns : tie.Need-returns
 returns c =
     let fits = c .before .before .fits in
     let f = c .before .before .args .frac in
-    settled-signed _ f _ (c .before .signed-product .ensures ∙ ap₂ (λ (x y : ℤ). floor (x *ℤ y) (2 ^ f)) (toZ-ofZ {w = w64} (fits .a)) (toZ-ofZ {w = w64} (fits .b))) (c .settle .ensures)
+    settled-signed _ f _ (c .before .signed-product .ensures
+    ∙ ap₂ (λ (x y : ℤ). floor (x *ℤ y) (2 ^ f)) (toZ-ofZ {w = w64} (fits .a)) (toZ-ofZ {w = w64} (fits .b))) (c .settle .ensures)
 
 pub mul-spec : {M : Type 1} → statement M
 mul-spec = tie.close (tie.spec signed-product-requires settle-requires returns)

@@ -23,7 +23,8 @@ settle-requires c κs = search needs
 
 returns : tie.Need-returns
 returns c =
-    let minus = via negℤ (c .before .before .before .of-signed .ensures ∙ toZ-ofZ {w = w64} (c .before .before .before .before .fits .a)) (c .before .before .negated .ensures) in
+    let minus = via negℤ (c .before .before .before .of-signed .ensures ∙ toZ-ofZ {w = w64} (c .before .before .before .before .fits .a))
+    (c .before .before .negated .ensures) in
     settled-signed _ _ _ (c .before .of-number .ensures ∙ minus) (c .settle .ensures)
 
 pub neg-spec : {M : Type 1} → statement M

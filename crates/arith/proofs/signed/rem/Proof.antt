@@ -33,12 +33,17 @@ fit-requires c κs = met _ _ _ (c .before .before .before .of-divisor .ensures) 
 
 returns : tie.Need-returns
 returns c =
-    let divisor = (c .before .before .before .before .before .of-signed .ensures ∙ toZ-ofZ {w = w64} (c .before .before .before .before .before .before .fits .b)) in
+    let divisor = (c .before .before .before .before .before .of-signed .ensures
+    ∙ toZ-ofZ {w = w64} (c .before .before .before .before .before .before .fits .b)) in
     pass-signed _ _ (at-divisor _ _ divisor (c .before .before .before .before .of-divisor .ensures)) (c .before .before .before .if1 .taken)
-    (fitted-signed _ _ (via₂ (λ (x y : ℤ). remZ x y) (c .before .before .of-signed2 .ensures ∙ toZ-ofZ {w = w64} (c .before .before .before .before .before .before .fits .a)) divisor (c .before .remainder .ensures)) (c .fit .ensures))
+    (fitted-signed _ _ (via₂ (λ (x y : ℤ). remZ x y)
+    (c .before .before .of-signed2 .ensures ∙ toZ-ofZ {w = w64} (c .before .before .before .before .before .before .fits .a)) divisor
+    (c .before .remainder .ensures)) (c .fit .ensures))
 
 returns-2 : tie.Need-returns-2
-returns-2 c = fault-signed _ _ (at-divisor _ _ (c .before .before .of-signed .ensures ∙ toZ-ofZ {w = w64} (c .before .before .before .fits .b)) (c .before .of-divisor .ensures)) (c .if1 .left)
+returns-2 c =
+    fault-signed _ _ (at-divisor _ _ (c .before .before .of-signed .ensures ∙ toZ-ofZ {w = w64} (c .before .before .before .fits .b))
+    (c .before .of-divisor .ensures)) (c .if1 .left)
 
 pub rem-spec : {M : Type 1} → statement M
 rem-spec =

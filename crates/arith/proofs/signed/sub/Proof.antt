@@ -17,7 +17,8 @@ settle-requires c κs = search needs
 returns : tie.Need-returns
 returns c =
     let fits = c .before .before .fits in
-    settled-signed _ _ _ (c .before .signed-difference .ensures ∙ ap₂ (λ (x y : ℤ). x +ℤ negℤ y) (toZ-ofZ {w = w64} (fits .a)) (toZ-ofZ {w = w64} (fits .b))) (c .settle .ensures)
+    settled-signed _ _ _ (c .before .signed-difference .ensures ∙ ap₂ (λ (x y : ℤ). x +ℤ negℤ y) (toZ-ofZ {w = w64} (fits .a)) (toZ-ofZ {w = w64} (fits .b)))
+    (c .settle .ensures)
 
 pub sub-spec : {M : Type 1} → statement M
 sub-spec = tie.close (tie.spec signed-difference-requires settle-requires returns)

@@ -20,7 +20,8 @@ settle-requires c κs = search needs
 
 returns : tie.Need-returns
 returns c =
-    settled-unsigned _ _ _ (via₂ _+ℤ_ (c .before .before .before .of-unsigned .ensures) (c .before .before .of-unsigned2 .ensures) (c .before .sum .ensures)) (c .settle .ensures)
+    settled-unsigned _ _ _ (via₂ _+ℤ_ (c .before .before .before .of-unsigned .ensures) (c .before .before .of-unsigned2 .ensures) (c .before .sum .ensures))
+    (c .settle .ensures)
 
 pub add-spec : {M : Type 1} → statement M
 add-spec =

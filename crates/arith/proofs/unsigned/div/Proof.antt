@@ -34,7 +34,8 @@ returns c =
     let f = c .before .before .before .before .before .before .args .frac in
     let divisor = (c .before .before .before .before .before .of-unsigned .ensures) in
     pass-unsigned _ _ (at-divisor _ _ divisor (c .before .before .before .before .of-divisor .ensures)) (c .before .before .before .if1 .taken)
-    (fitted-unsigned _ _ (via₂ (λ (x y : ℤ). quotZ (x *ℤ pos (2 ^ f)) y) (c .before .before .of-unsigned2 .ensures) divisor (c .before .quotient .ensures)) (c .fit .ensures))
+    (fitted-unsigned _ _ (via₂ (λ (x y : ℤ). quotZ (x *ℤ pos (2 ^ f)) y) (c .before .before .of-unsigned2 .ensures) divisor (c .before .quotient .ensures))
+    (c .fit .ensures))
 
 returns-2 : tie.Need-returns-2
 returns-2 c = fault-unsigned _ _ (at-divisor _ _ (c .before .before .of-unsigned .ensures) (c .before .of-divisor .ensures)) (c .if1 .left)

@@ -23,7 +23,8 @@ settle-requires c κs = search needs
 returns : tie.Need-returns
 returns c =
     let f = c .before .before .before .before .args .frac in
-    settled-unsigned _ f _ (via₂ (λ (x y : ℤ). floor (x *ℤ y) (2 ^ f)) (c .before .before .before .of-unsigned .ensures) (c .before .before .of-unsigned2 .ensures) (c .before .product .ensures)) (c .settle .ensures)
+    settled-unsigned _ f _ (via₂ (λ (x y : ℤ). floor (x *ℤ y) (2 ^ f)) (c .before .before .before .of-unsigned .ensures)
+    (c .before .before .of-unsigned2 .ensures) (c .before .product .ensures)) (c .settle .ensures)
 
 pub mul-spec : {M : Type 1} → statement M
 mul-spec =

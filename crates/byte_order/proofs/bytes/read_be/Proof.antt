@@ -39,8 +39,12 @@ loop-less c = search needs
 loop-again : tie.Need-loop-again Inv-loop μ-loop
 loop-again c =
     let l = c .before .before .before .loop in
-    let t = c .before .before .before .before .before .args .bytes .now in
-    (search needs, below-next (l .r) (l .i) (c .word .result) (l .inv .1) (omega arith), be-next t (l .r) (l .i) (c .word .result) (omega arith) (c .word .ensures .0) (l .inv .2))
+    let t = c .before .before .before .before .before .args .bytes .now in (
+      search needs,
+      below-next (l .r) (l .i) (c .word .result) (l .inv .1) (omega arith),
+      be-next t (l .r) (l .i) (c .word .result) (omega arith)
+          (c .word .ensures .0) (l .inv .2),
+    )
 
 returns : tie.Need-returns Inv-loop μ-loop
 returns c = let l = c .before .loop in be-end (c .before .before .before .args .bytes .now) (l .r) (l .i) (omega arith) (l .inv .2)

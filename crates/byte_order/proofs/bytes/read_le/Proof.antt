@@ -48,8 +48,12 @@ loop-less c = search needs
 loop-again : tie.Need-loop-again Inv-loop μ-loop
 loop-again c =
     let l = c .before .before .before .loop in
-    let t = c .before .before .before .before .before .args .bytes .now in
-    (search needs, below-back (l .r) (l .i) (length t) (c .word .result) (omega arith) (omega arith) (l .inv .1) (omega arith), le-next t (l .r) (l .i) (c .word .result) (omega arith) (omega arith) (c .word .ensures .0) (l .inv .2))
+    let t = c .before .before .before .before .before .args .bytes .now in (
+      search needs,
+      below-back (l .r) (l .i) (length t) (c .word .result) (omega arith) (omega arith) (l .inv .1) (omega arith),
+      le-next t (l .r) (l .i)
+          (c .word .result) (omega arith) (omega arith) (c .word .ensures .0) (l .inv .2),
+    )
 
 returns : tie.Need-returns Inv-loop μ-loop
 returns c =

@@ -33,8 +33,12 @@ loop-less c = search needs
 
 loop-again : tie.Need-loop-again Inv-loop μ-loop
 loop-again c =
-    let l = c .before .loop in
-    (search needs, below-next (l .r) (l .i) (l .rest % 256) (l .inv .1) (omega arith), swap-next (l .r) (l .rest) (c .before .before .args .n) (l .i) (omega arith) (l .inv .2))
+    let l = c .before .loop in (
+      search needs,
+      below-next (l .r) (l .i) (l .rest % 256) (l .inv .1) (omega arith),
+      swap-next (l .r) (l .rest) (c .before .before .args .n) (l .i)
+          (omega arith) (l .inv .2),
+    )
 
 returns : tie.Need-returns Inv-loop μ-loop
 returns c = let l = c .before .loop in swap-end (l .r) (l .rest) (c .before .before .args .n) (l .i) (omega arith) (l .inv .2)

@@ -18,13 +18,18 @@ swapped-requires : tie.Need-swapped-requires
 swapped-requires c κs = eight _ (c .before .size .ensures) (met _ _ _ (c .before .before .before .of-room .ensures) (c .before .before .if1 .taken) .word)
 
 write-le-requires : tie.Need-write-le-requires
-write-le-requires c κs = room-none _ _ (c .before .before .before .size .ensures) (met _ _ _ (c .before .before .before .before .before .of-room .ensures) (c .before .before .before .before .if1 .taken) .rest)
+write-le-requires c κs =
+    room-none _ _ (c .before .before .before .size .ensures)
+    (met _ _ _ (c .before .before .before .before .before .of-room .ensures) (c .before .before .before .before .if1 .taken) .rest)
 
 same-length : tie.Need-same-length
 same-length c = search needs
 
 returns : tie.Need-returns
-returns c = stored-big _ _ _ (c .before .before .before .before .before .before .before .before .of-room .ensures) _ (c .before .before .before .before .before .before .before .if1 .taken) (c .before .before .before .before .before .before .size .ensures) (c .before .before .before .before .before .low-bits .ensures) (c .before .before .before .before .swapped .ensures) (c .before .before .write-le .ensures)
+returns c =
+    stored-big _ _ _ (c .before .before .before .before .before .before .before .before .of-room .ensures) _
+    (c .before .before .before .before .before .before .before .if1 .taken) (c .before .before .before .before .before .before .size .ensures)
+    (c .before .before .before .before .before .low-bits .ensures) (c .before .before .before .before .swapped .ensures) (c .before .before .write-le .ensures)
 
 returns-2 : tie.Need-returns-2
 returns-2 c = stored-refused _ _ _ (c .before .of-room .ensures) (c .if1 .left)

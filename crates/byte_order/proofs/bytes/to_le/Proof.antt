@@ -15,13 +15,18 @@ low-bits-requires : tie.Need-low-bits-requires
 low-bits-requires c κs = met _ _ _ (c .before .before .of-room .ensures) (c .before .if1 .taken) .width
 
 write-le-requires : tie.Need-write-le-requires
-write-le-requires c κs = room-none _ _ (c .before .before .size .ensures) (met _ _ _ (c .before .before .before .before .of-room .ensures) (c .before .before .before .if1 .taken) .rest)
+write-le-requires c κs =
+    room-none _ _ (c .before .before .size .ensures)
+    (met _ _ _ (c .before .before .before .before .of-room .ensures) (c .before .before .before .if1 .taken) .rest)
 
 same-length : tie.Need-same-length
 same-length c = search needs
 
 returns : tie.Need-returns
-returns c = stored-little _ _ _ (c .before .before .before .before .before .before .before .of-room .ensures) _ (c .before .before .before .before .before .before .if1 .taken) (c .before .before .before .before .before .size .ensures) (c .before .before .before .before .low-bits .ensures) (c .before .before .write-le .ensures)
+returns c =
+    stored-little _ _ _ (c .before .before .before .before .before .before .before .of-room .ensures) _
+    (c .before .before .before .before .before .before .if1 .taken) (c .before .before .before .before .before .size .ensures)
+    (c .before .before .before .before .low-bits .ensures) (c .before .before .write-le .ensures)
 
 returns-2 : tie.Need-returns-2
 returns-2 c = stored-refused _ _ _ (c .before .of-room .ensures) (c .if1 .left)

@@ -1,4 +1,5 @@
--- `byte_order::bytes::write_le` meets its contract. The invariant: what stands there and what is to come make the bytes, and the rest is as it was. Assumes nothing.
+-- `byte_order::bytes::write_le` meets its contract. The invariant: what stands there and what is to
+-- come make the bytes, and the rest is as it was. Assumes nothing.
 use Prim.Native.Nat.{ℕ}
 use mathlib.Core.Path.{ap}
 use Rattle.byte_order.specs.Bytes.{store-next, kept-next, store-end}
@@ -36,8 +37,13 @@ loop-less c = search needs
 loop-again : tie.Need-loop-again Inv-loop μ-loop
 loop-again c =
     let l = c .before .before .loop in
-    let a = c .before .before .before .before .args in
-    (search needs, search needs, store-next (l .out) (a .out .now) (l .i) (a .n) (l .rest) (c .low-byte .result) (omega arith) (omega arith) (c .low-byte .ensures) (l .inv .2), kept-next (l .out) (a .out .now) (l .i) (a .n) (l .rest) (c .low-byte .result) (l .inv .3))
+    let a = c .before .before .before .before .args in (
+      search needs,
+      search needs,
+      store-next (l .out) (a .out .now) (l .i) (a .n) (l .rest) (c .low-byte .result) (omega arith) (omega arith)
+          (c .low-byte .ensures) (l .inv .2),
+      kept-next (l .out) (a .out .now) (l .i) (a .n) (l .rest) (c .low-byte .result) (l .inv .3),
+    )
 
 same-length : tie.Need-same-length Inv-loop μ-loop
 same-length c = search needs

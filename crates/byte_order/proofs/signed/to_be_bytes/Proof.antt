@@ -19,7 +19,10 @@ same-length : tie.Need-same-length
 same-length c = search needs
 
 returns : tie.Need-returns
-returns c = stored-at (ap (bigOf (c .before .before .before .before .before .before .args .width)) (c .before .before .before .before .of-signed .ensures ∙ toZ-ofZ {w = w64} (c .before .before .before .before .before .before .fits .a))) (c .before .before .to-be .ensures)
+returns c =
+    stored-at (ap (bigOf (c .before .before .before .before .before .before .args .width))
+    (c .before .before .before .before .of-signed .ensures ∙ toZ-ofZ {w = w64} (c .before .before .before .before .before .before .fits .a)))
+    (c .before .before .to-be .ensures)
 
 pub to-be-bytes-spec : {M : Type 1} → statement M
 to-be-bytes-spec = tie.close (tie.spec of-signed-requires to-be-requires same-length returns)

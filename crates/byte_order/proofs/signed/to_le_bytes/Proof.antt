@@ -19,7 +19,10 @@ same-length : tie.Need-same-length
 same-length c = search needs
 
 returns : tie.Need-returns
-returns c = stored-at (ap (littleOf (c .before .before .before .before .before .before .args .width)) (c .before .before .before .before .of-signed .ensures ∙ toZ-ofZ {w = w64} (c .before .before .before .before .before .before .fits .a))) (c .before .before .to-le .ensures)
+returns c =
+    stored-at (ap (littleOf (c .before .before .before .before .before .before .args .width))
+    (c .before .before .before .before .of-signed .ensures ∙ toZ-ofZ {w = w64} (c .before .before .before .before .before .before .fits .a)))
+    (c .before .before .to-le .ensures)
 
 pub to-le-bytes-spec : {M : Type 1} → statement M
 to-le-bytes-spec = tie.close (tie.spec of-signed-requires to-le-requires same-length returns)

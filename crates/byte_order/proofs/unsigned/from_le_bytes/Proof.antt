@@ -18,7 +18,9 @@ fit-requires : tie.Need-fit-requires
 fit-requires c κs = met _ _ _ (c .before .before .of-length .ensures) (c .before .if1 .taken) .width
 
 returns : tie.Need-returns
-returns c = pass-unsigned _ _ (c .before .before .before .of-length .ensures) (c .before .before .if1 .taken) (wrapped-unsigned _ (plain _ (c .before .read-le .ensures)) (c .fit .ensures))
+returns c =
+    pass-unsigned _ _ (c .before .before .before .of-length .ensures) (c .before .before .if1 .taken)
+    (wrapped-unsigned _ (plain _ (c .before .read-le .ensures)) (c .fit .ensures))
 
 returns-2 : tie.Need-returns-2
 returns-2 c = fault-unsigned _ _ (c .before .of-length .ensures) (c .if1 .left)

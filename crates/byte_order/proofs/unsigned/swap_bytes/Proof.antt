@@ -20,15 +20,19 @@ size-requires : tie.Need-size-requires
 size-requires c κs = search needs
 
 swapped-requires : tie.Need-swapped-requires
-swapped-requires c κs = eight _ (c .size .ensures) (width-bounds _ (fault-free _ _ (sym (c .before .before .before .before .check .ensures) ∙ c .before .before .before .if1 .taken) .0) .1)
+swapped-requires c κs =
+    eight _ (c .size .ensures) (width-bounds _
+    (fault-free _ _ (sym (c .before .before .before .before .check .ensures) ∙ c .before .before .before .if1 .taken) .0) .1)
 
 fit-requires : tie.Need-fit-requires
 fit-requires c κs = fault-free _ _ (sym (c .before .before .before .before .before .check .ensures) ∙ c .before .before .before .before .if1 .taken) .0
 
 returns : tie.Need-returns
 returns c =
-    let v = swapped-of _ (c .before .before .before .before .of-unsigned .ensures) (c .before .before .size .ensures) (c .before .before .before .low-bits .ensures) (c .before .swapped .ensures) in
-    pass-unsigned _ _ (c .before .before .before .before .before .before .check .ensures) (c .before .before .before .before .before .if1 .taken) (wrapped-unsigned _ (plain _ v) (c .fit .ensures))
+    let v = swapped-of _ (c .before .before .before .before .of-unsigned .ensures) (c .before .before .size .ensures)
+    (c .before .before .before .low-bits .ensures) (c .before .swapped .ensures) in
+    pass-unsigned _ _ (c .before .before .before .before .before .before .check .ensures) (c .before .before .before .before .before .if1 .taken)
+    (wrapped-unsigned _ (plain _ v) (c .fit .ensures))
 
 returns-2 : tie.Need-returns-2
 returns-2 c = fault-unsigned _ _ (c .before .check .ensures) (c .if1 .left)

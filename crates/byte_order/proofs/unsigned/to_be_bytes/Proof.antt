@@ -16,7 +16,9 @@ same-length : tie.Need-same-length
 same-length c = search needs
 
 returns : tie.Need-returns
-returns c = stored-at (ap (bigOf (c .before .before .before .before .before .before .args .width)) (c .before .before .before .before .of-unsigned .ensures)) (c .before .before .to-be .ensures)
+returns c =
+    stored-at (ap (bigOf (c .before .before .before .before .before .before .args .width)) (c .before .before .before .before .of-unsigned .ensures))
+    (c .before .before .to-be .ensures)
 
 pub to-be-bytes-spec : {M : Type 1} → statement M
 to-be-bytes-spec = tie.close (tie.spec of-unsigned-requires to-be-requires same-length returns)

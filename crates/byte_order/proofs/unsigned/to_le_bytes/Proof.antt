@@ -16,7 +16,9 @@ same-length : tie.Need-same-length
 same-length c = search needs
 
 returns : tie.Need-returns
-returns c = stored-at (ap (littleOf (c .before .before .before .before .before .before .args .width)) (c .before .before .before .before .of-unsigned .ensures)) (c .before .before .to-le .ensures)
+returns c =
+    stored-at (ap (littleOf (c .before .before .before .before .before .before .args .width)) (c .before .before .before .before .of-unsigned .ensures))
+    (c .before .before .to-le .ensures)
 
 pub to-le-bytes-spec : {M : Type 1} → statement M
 to-le-bytes-spec = tie.close (tie.spec of-unsigned-requires to-le-requires same-length returns)

@@ -13,7 +13,11 @@ unsigned-requires : tie.Need-unsigned-requires
 unsigned-requires c κs = search needs
 
 returns : tie.Need-returns
-returns c = record { answer = c .before .add .result; copied = c .unsigned .ensures; meets = rw (c .before .before .manner .ensures) at (c .before .add .ensures) }
+returns c = record {
+  answer = c .before .add .result;
+  copied = c .unsigned .ensures;
+  meets = rw (c .before .before .manner .ensures) at (c .before .add .ensures);
+}
 
 pub tq-add-unsigned-spec : {M : Type 1} → statement M
 tq-add-unsigned-spec = tie.close (tie.spec manner-requires add-requires unsigned-requires returns)

@@ -18,7 +18,11 @@ returns : tie.Need-returns
 returns c =
     let same-a = toZ-ofZ {w = w64} (c .before .before .before .fits .a) in
     let same-b = toZ-ofZ {w = w64} (c .before .before .before .fits .b) in
-    record { answer = c .before .div .result; copied = c .signed .ensures; meets = rw (same-a, same-b, c .before .before .manner .ensures) at (c .before .div .ensures) }
+    record {
+      answer = c .before .div .result;
+      copied = c .signed .ensures;
+      meets = rw (same-a, same-b, c .before .before .manner .ensures) at (c .before .div .ensures);
+    }
 
 pub tq-div-signed-spec : {M : Type 1} → statement M
 tq-div-signed-spec = tie.close (tie.spec manner-requires div-requires signed-requires returns)

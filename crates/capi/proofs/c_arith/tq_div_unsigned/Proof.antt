@@ -13,7 +13,11 @@ unsigned-requires : tie.Need-unsigned-requires
 unsigned-requires c κs = search needs
 
 returns : tie.Need-returns
-returns c = record { answer = c .before .div .result; copied = c .unsigned .ensures; meets = rw (c .before .before .manner .ensures) at (c .before .div .ensures) }
+returns c = record {
+  answer = c .before .div .result;
+  copied = c .unsigned .ensures;
+  meets = rw (c .before .before .manner .ensures) at (c .before .div .ensures);
+}
 
 pub tq-div-unsigned-spec : {M : Type 1} → statement M
 tq-div-unsigned-spec = tie.close (tie.spec manner-requires div-requires unsigned-requires returns)

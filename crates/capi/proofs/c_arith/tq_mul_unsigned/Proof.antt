@@ -13,7 +13,11 @@ unsigned-requires : tie.Need-unsigned-requires
 unsigned-requires c κs = search needs
 
 returns : tie.Need-returns
-returns c = record { answer = c .before .mul .result; copied = c .unsigned .ensures; meets = rw (c .before .before .manner .ensures) at (c .before .mul .ensures) }
+returns c = record {
+  answer = c .before .mul .result;
+  copied = c .unsigned .ensures;
+  meets = rw (c .before .before .manner .ensures) at (c .before .mul .ensures);
+}
 
 pub tq-mul-unsigned-spec : {M : Type 1} → statement M
 tq-mul-unsigned-spec = tie.close (tie.spec manner-requires mul-requires unsigned-requires returns)

@@ -13,7 +13,11 @@ unsigned-requires : tie.Need-unsigned-requires
 unsigned-requires c κs = search needs
 
 returns : tie.Need-returns
-returns c = record { answer = c .before .neg .result; copied = c .unsigned .ensures; meets = rw (c .before .before .manner .ensures) at (c .before .neg .ensures) }
+returns c = record {
+  answer = c .before .neg .result;
+  copied = c .unsigned .ensures;
+  meets = rw (c .before .before .manner .ensures) at (c .before .neg .ensures);
+}
 
 pub tq-neg-unsigned-spec : {M : Type 1} → statement M
 tq-neg-unsigned-spec = tie.close (tie.spec manner-requires neg-requires unsigned-requires returns)

@@ -18,7 +18,11 @@ returns : tie.Need-returns
 returns c =
     let same-a = toZ-ofZ {w = w64} (c .before .before .before .fits .a) in
     let same-b = toZ-ofZ {w = w64} (c .before .before .before .fits .b) in
-    record { answer = c .before .rem .result; copied = c .signed .ensures; meets = rw (same-a, same-b, c .before .before .manner .ensures) at (c .before .rem .ensures) }
+    record {
+      answer = c .before .rem .result;
+      copied = c .signed .ensures;
+      meets = rw (same-a, same-b, c .before .before .manner .ensures) at (c .before .rem .ensures);
+    }
 
 pub tq-rem-signed-spec : {M : Type 1} → statement M
 tq-rem-signed-spec = tie.close (tie.spec manner-requires rem-requires signed-requires returns)

@@ -13,7 +13,11 @@ unsigned-requires : tie.Need-unsigned-requires
 unsigned-requires c κs = search needs
 
 returns : tie.Need-returns
-returns c = record { answer = c .before .rem .result; copied = c .unsigned .ensures; meets = rw (c .before .before .manner .ensures) at (c .before .rem .ensures) }
+returns c = record {
+  answer = c .before .rem .result;
+  copied = c .unsigned .ensures;
+  meets = rw (c .before .before .manner .ensures) at (c .before .rem .ensures);
+}
 
 pub tq-rem-unsigned-spec : {M : Type 1} → statement M
 tq-rem-unsigned-spec = tie.close (tie.spec manner-requires rem-requires unsigned-requires returns)

@@ -17,7 +17,11 @@ signed-requires c κs = search needs
 returns : tie.Need-returns
 returns c =
     let same-a = toZ-ofZ {w = w64} (c .before .before .before .fits .a) in
-    record { answer = c .before .shl .result; copied = c .signed .ensures; meets = rw (same-a, c .before .before .manner .ensures) at (c .before .shl .ensures) }
+    record {
+      answer = c .before .shl .result;
+      copied = c .signed .ensures;
+      meets = rw (same-a, c .before .before .manner .ensures) at (c .before .shl .ensures);
+    }
 
 pub tq-shl-signed-spec : {M : Type 1} → statement M
 tq-shl-signed-spec = tie.close (tie.spec manner-requires shl-requires signed-requires returns)

@@ -13,7 +13,11 @@ unsigned-requires : tie.Need-unsigned-requires
 unsigned-requires c κs = search needs
 
 returns : tie.Need-returns
-returns c = record { answer = c .before .shl .result; copied = c .unsigned .ensures; meets = rw (c .before .before .manner .ensures) at (c .before .shl .ensures) }
+returns c = record {
+  answer = c .before .shl .result;
+  copied = c .unsigned .ensures;
+  meets = rw (c .before .before .manner .ensures) at (c .before .shl .ensures);
+}
 
 pub tq-shl-unsigned-spec : {M : Type 1} → statement M
 tq-shl-unsigned-spec = tie.close (tie.spec manner-requires shl-requires unsigned-requires returns)

@@ -13,7 +13,11 @@ unsigned-requires : tie.Need-unsigned-requires
 unsigned-requires c κs = search needs
 
 returns : tie.Need-returns
-returns c = record { answer = c .before .shr .result; copied = c .unsigned .ensures; meets = rw (c .before .before .manner .ensures) at (c .before .shr .ensures) }
+returns c = record {
+  answer = c .before .shr .result;
+  copied = c .unsigned .ensures;
+  meets = rw (c .before .before .manner .ensures) at (c .before .shr .ensures);
+}
 
 pub tq-shr-unsigned-spec : {M : Type 1} → statement M
 tq-shr-unsigned-spec = tie.close (tie.spec manner-requires shr-requires unsigned-requires returns)

@@ -13,7 +13,11 @@ unsigned-requires : tie.Need-unsigned-requires
 unsigned-requires c κs = search needs
 
 returns : tie.Need-returns
-returns c = record { answer = c .before .sub .result; copied = c .unsigned .ensures; meets = rw (c .before .before .manner .ensures) at (c .before .sub .ensures) }
+returns c = record {
+  answer = c .before .sub .result;
+  copied = c .unsigned .ensures;
+  meets = rw (c .before .before .manner .ensures) at (c .before .sub .ensures);
+}
 
 pub tq-sub-unsigned-spec : {M : Type 1} → statement M
 tq-sub-unsigned-spec = tie.close (tie.spec manner-requires sub-requires unsigned-requires returns)

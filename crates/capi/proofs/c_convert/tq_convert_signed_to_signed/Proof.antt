@@ -1,4 +1,5 @@
--- `capi::c_convert::tq_convert_signed_to_signed` meets its contract: the manner's number stands for the manner, and the raw is read back from its bits. Assumes nothing.
+-- `capi::c_convert::tq_convert_signed_to_signed` meets its contract: the manner's number stands for the
+-- manner, and the raw is read back from its bits. Assumes nothing.
 use mir.Syntax.{w64}
 use mir.Facts.{toZ-ofZ}
 use borrow.Author.Needs.{needs}
@@ -17,7 +18,11 @@ signed-requires c κs = search needs
 returns : tie.Need-returns
 returns c =
     let same = toZ-ofZ {w = w64} (c .before .before .before .fits .raw) in
-    record { answer = c .before .to-signed .result; copied = c .signed .ensures; meets = rw (same, c .before .before .manner .ensures) at (c .before .to-signed .ensures) }
+    record {
+      answer = c .before .to-signed .result;
+      copied = c .signed .ensures;
+      meets = rw (same, c .before .before .manner .ensures) at (c .before .to-signed .ensures);
+    }
 
 pub tq-convert-signed-to-signed-spec : {M : Type 1} → statement M
 tq-convert-signed-to-signed-spec =

@@ -13,7 +13,11 @@ signed-requires : tie.Need-signed-requires
 signed-requires c κs = search needs
 
 returns : tie.Need-returns
-returns c = record { answer = c .before .to-signed .result; copied = c .signed .ensures; meets = rw (c .before .before .manner .ensures) at (c .before .to-signed .ensures) }
+returns c = record {
+  answer = c .before .to-signed .result;
+  copied = c .signed .ensures;
+  meets = rw (c .before .before .manner .ensures) at (c .before .to-signed .ensures);
+}
 
 pub tq-convert-unsigned-to-signed-spec : {M : Type 1} → statement M
 tq-convert-unsigned-to-signed-spec =

@@ -13,7 +13,11 @@ unsigned-requires : tie.Need-unsigned-requires
 unsigned-requires c κs = search needs
 
 returns : tie.Need-returns
-returns c = record { answer = c .before .to-unsigned .result; copied = c .unsigned .ensures; meets = rw (c .before .before .manner .ensures) at (c .before .to-unsigned .ensures) }
+returns c = record {
+  answer = c .before .to-unsigned .result;
+  copied = c .unsigned .ensures;
+  meets = rw (c .before .before .manner .ensures) at (c .before .to-unsigned .ensures);
+}
 
 pub tq-convert-unsigned-to-unsigned-spec : {M : Type 1} → statement M
 tq-convert-unsigned-to-unsigned-spec =

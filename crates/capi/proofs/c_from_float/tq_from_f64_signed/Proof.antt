@@ -13,7 +13,11 @@ signed-requires : tie.Need-signed-requires
 signed-requires c κs = search needs
 
 returns : tie.Need-returns
-returns c = record { answer = c .before .from-f64 .result; copied = c .signed .ensures; meets = rw (c .before .before .manner .ensures) at (c .before .from-f64 .ensures) }
+returns c = record {
+  answer = c .before .from-f64 .result;
+  copied = c .signed .ensures;
+  meets = rw (c .before .before .manner .ensures) at (c .before .from-f64 .ensures);
+}
 
 pub tq-from-f64-signed-spec : {M : Type 1} → statement M
 tq-from-f64-signed-spec = tie.close (tie.spec manner-requires from-f64-requires signed-requires returns)

@@ -13,7 +13,11 @@ unsigned-requires : tie.Need-unsigned-requires
 unsigned-requires c κs = search needs
 
 returns : tie.Need-returns
-returns c = record { answer = c .before .abs .result; copied = c .unsigned .ensures; meets = rw (c .before .before .manner .ensures) at (c .before .abs .ensures) }
+returns c = record {
+  answer = c .before .abs .result;
+  copied = c .unsigned .ensures;
+  meets = rw (c .before .before .manner .ensures) at (c .before .abs .ensures);
+}
 
 pub tq-abs-unsigned-spec : {M : Type 1} → statement M
 tq-abs-unsigned-spec = tie.close (tie.spec manner-requires abs-requires unsigned-requires returns)

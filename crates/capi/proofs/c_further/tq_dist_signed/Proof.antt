@@ -18,7 +18,11 @@ returns : tie.Need-returns
 returns c =
     let same-a = toZ-ofZ {w = w64} (c .before .before .before .fits .a) in
     let same-b = toZ-ofZ {w = w64} (c .before .before .before .fits .b) in
-    record { answer = c .before .dist .result; copied = c .signed .ensures; meets = rw (same-a, same-b, c .before .before .manner .ensures) at (c .before .dist .ensures) }
+    record {
+      answer = c .before .dist .result;
+      copied = c .signed .ensures;
+      meets = rw (same-a, same-b, c .before .before .manner .ensures) at (c .before .dist .ensures);
+    }
 
 pub tq-dist-signed-spec : {M : Type 1} → statement M
 tq-dist-signed-spec = tie.close (tie.spec manner-requires dist-requires signed-requires returns)

@@ -13,7 +13,11 @@ unsigned-requires : tie.Need-unsigned-requires
 unsigned-requires c κs = search needs
 
 returns : tie.Need-returns
-returns c = record { answer = c .before .dist .result; copied = c .unsigned .ensures; meets = rw (c .before .before .manner .ensures) at (c .before .dist .ensures) }
+returns c = record {
+  answer = c .before .dist .result;
+  copied = c .unsigned .ensures;
+  meets = rw (c .before .before .manner .ensures) at (c .before .dist .ensures);
+}
 
 pub tq-dist-unsigned-spec : {M : Type 1} → statement M
 tq-dist-unsigned-spec = tie.close (tie.spec manner-requires dist-requires unsigned-requires returns)

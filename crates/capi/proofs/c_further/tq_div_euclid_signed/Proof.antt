@@ -1,4 +1,5 @@
--- `capi::c_further::tq_div_euclid_signed` meets its contract: the manner's number stands for the manner, and an operand is read back from its bits. Assumes nothing.
+-- `capi::c_further::tq_div_euclid_signed` meets its contract: the manner's number stands for the
+-- manner, and an operand is read back from its bits. Assumes nothing.
 use mir.Syntax.{w64}
 use mir.Facts.{toZ-ofZ}
 use borrow.Author.Needs.{needs}
@@ -18,7 +19,11 @@ returns : tie.Need-returns
 returns c =
     let same-a = toZ-ofZ {w = w64} (c .before .before .before .fits .a) in
     let same-b = toZ-ofZ {w = w64} (c .before .before .before .fits .b) in
-    record { answer = c .before .div-euclid .result; copied = c .signed .ensures; meets = rw (same-a, same-b, c .before .before .manner .ensures) at (c .before .div-euclid .ensures) }
+    record {
+      answer = c .before .div-euclid .result;
+      copied = c .signed .ensures;
+      meets = rw (same-a, same-b, c .before .before .manner .ensures) at (c .before .div-euclid .ensures);
+    }
 
 pub tq-div-euclid-signed-spec : {M : Type 1} → statement M
 tq-div-euclid-signed-spec = tie.close (tie.spec manner-requires div-euclid-requires signed-requires returns)

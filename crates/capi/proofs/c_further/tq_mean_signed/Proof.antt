@@ -18,7 +18,11 @@ returns : tie.Need-returns
 returns c =
     let same-a = toZ-ofZ {w = w64} (c .before .before .before .fits .a) in
     let same-b = toZ-ofZ {w = w64} (c .before .before .before .fits .b) in
-    record { answer = c .before .mean .result; copied = c .signed .ensures; meets = rw (same-a, same-b, c .before .before .manner .ensures) at (c .before .mean .ensures) }
+    record {
+      answer = c .before .mean .result;
+      copied = c .signed .ensures;
+      meets = rw (same-a, same-b, c .before .before .manner .ensures) at (c .before .mean .ensures);
+    }
 
 pub tq-mean-signed-spec : {M : Type 1} → statement M
 tq-mean-signed-spec = tie.close (tie.spec manner-requires mean-requires signed-requires returns)

@@ -13,7 +13,11 @@ unsigned-requires : tie.Need-unsigned-requires
 unsigned-requires c κs = search needs
 
 returns : tie.Need-returns
-returns c = record { answer = c .before .mean .result; copied = c .unsigned .ensures; meets = rw (c .before .before .manner .ensures) at (c .before .mean .ensures) }
+returns c = record {
+  answer = c .before .mean .result;
+  copied = c .unsigned .ensures;
+  meets = rw (c .before .before .manner .ensures) at (c .before .mean .ensures);
+}
 
 pub tq-mean-unsigned-spec : {M : Type 1} → statement M
 tq-mean-unsigned-spec = tie.close (tie.spec manner-requires mean-requires unsigned-requires returns)

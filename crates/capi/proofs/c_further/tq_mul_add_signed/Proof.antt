@@ -1,4 +1,5 @@
--- `capi::c_further::tq_mul_add_signed` meets its contract: the manner's number stands for the manner, and an operand is read back from its bits. Assumes nothing.
+-- `capi::c_further::tq_mul_add_signed` meets its contract: the manner's number stands for the
+-- manner, and an operand is read back from its bits. Assumes nothing.
 use mir.Syntax.{w64}
 use mir.Facts.{toZ-ofZ}
 use borrow.Author.Needs.{needs}
@@ -19,7 +20,11 @@ returns c =
     let same-a = toZ-ofZ {w = w64} (c .before .before .before .fits .a) in
     let same-b = toZ-ofZ {w = w64} (c .before .before .before .fits .b) in
     let same-c = toZ-ofZ {w = w64} (c .before .before .before .fits .c) in
-    record { answer = c .before .mul-add .result; copied = c .signed .ensures; meets = rw (same-a, same-b, same-c, c .before .before .manner .ensures) at (c .before .mul-add .ensures) }
+    record {
+      answer = c .before .mul-add .result;
+      copied = c .signed .ensures;
+      meets = rw (same-a, same-b, same-c, c .before .before .manner .ensures) at (c .before .mul-add .ensures);
+    }
 
 pub tq-mul-add-signed-spec : {M : Type 1} → statement M
 tq-mul-add-signed-spec = tie.close (tie.spec manner-requires mul-add-requires signed-requires returns)

@@ -13,7 +13,11 @@ unsigned-requires : tie.Need-unsigned-requires
 unsigned-requires c κs = search needs
 
 returns : tie.Need-returns
-returns c = record { answer = c .before .mul-add .result; copied = c .unsigned .ensures; meets = rw (c .before .before .manner .ensures) at (c .before .mul-add .ensures) }
+returns c = record {
+  answer = c .before .mul-add .result;
+  copied = c .unsigned .ensures;
+  meets = rw (c .before .before .manner .ensures) at (c .before .mul-add .ensures);
+}
 
 pub tq-mul-add-unsigned-spec : {M : Type 1} → statement M
 tq-mul-add-unsigned-spec = tie.close (tie.spec manner-requires mul-add-requires unsigned-requires returns)

@@ -13,7 +13,11 @@ unsigned-requires : tie.Need-unsigned-requires
 unsigned-requires c κs = search needs
 
 returns : tie.Need-returns
-returns c = record { answer = c .before .rem-euclid .result; copied = c .unsigned .ensures; meets = rw (c .before .before .manner .ensures) at (c .before .rem-euclid .ensures) }
+returns c = record {
+  answer = c .before .rem-euclid .result;
+  copied = c .unsigned .ensures;
+  meets = rw (c .before .before .manner .ensures) at (c .before .rem-euclid .ensures);
+}
 
 pub tq-rem-euclid-unsigned-spec : {M : Type 1} → statement M
 tq-rem-euclid-unsigned-spec = tie.close (tie.spec manner-requires rem-euclid-requires unsigned-requires returns)

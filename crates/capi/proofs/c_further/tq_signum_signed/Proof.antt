@@ -1,4 +1,5 @@
--- `capi::c_further::tq_signum_signed` meets its contract: the manner's number stands for the manner, and an operand is read back from its bits. Assumes nothing.
+-- `capi::c_further::tq_signum_signed` meets its contract: the manner's number stands for the
+-- manner, and an operand is read back from its bits. Assumes nothing.
 use mir.Syntax.{w64}
 use mir.Facts.{toZ-ofZ}
 use borrow.Author.Needs.{needs}
@@ -17,7 +18,11 @@ signed-requires c κs = search needs
 returns : tie.Need-returns
 returns c =
     let same-a = toZ-ofZ {w = w64} (c .before .before .before .fits .a) in
-    record { answer = c .before .signum .result; copied = c .signed .ensures; meets = rw (same-a, c .before .before .manner .ensures) at (c .before .signum .ensures) }
+    record {
+      answer = c .before .signum .result;
+      copied = c .signed .ensures;
+      meets = rw (same-a, c .before .before .manner .ensures) at (c .before .signum .ensures);
+    }
 
 pub tq-signum-signed-spec : {M : Type 1} → statement M
 tq-signum-signed-spec = tie.close (tie.spec manner-requires signum-requires signed-requires returns)

@@ -13,7 +13,11 @@ unsigned-requires : tie.Need-unsigned-requires
 unsigned-requires c κs = search needs
 
 returns : tie.Need-returns
-returns c = record { answer = c .before .signum .result; copied = c .unsigned .ensures; meets = rw (c .before .before .manner .ensures) at (c .before .signum .ensures) }
+returns c = record {
+  answer = c .before .signum .result;
+  copied = c .unsigned .ensures;
+  meets = rw (c .before .before .manner .ensures) at (c .before .signum .ensures);
+}
 
 pub tq-signum-unsigned-spec : {M : Type 1} → statement M
 tq-signum-unsigned-spec = tie.close (tie.spec manner-requires signum-requires unsigned-requires returns)

@@ -13,7 +13,11 @@ signed-requires : tie.Need-signed-requires
 signed-requires c κs = search needs
 
 returns : tie.Need-returns
-returns c = record { answer = c .before .read .result; copied = c .signed .ensures; meets = rw (c .before .before .manner .ensures) at (c .before .read .ensures) }
+returns c = record {
+  answer = c .before .read .result;
+  copied = c .signed .ensures;
+  meets = rw (c .before .before .manner .ensures) at (c .before .read .ensures);
+}
 
 pub tq-read-signed-spec : {M : Type 1} → statement M
 tq-read-signed-spec = tie.close (tie.spec manner-requires read-requires signed-requires returns)

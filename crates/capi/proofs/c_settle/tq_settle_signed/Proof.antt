@@ -13,7 +13,11 @@ signed-requires : tie.Need-signed-requires
 signed-requires c κs = search needs
 
 returns : tie.Need-returns
-returns c = record { answer = c .before .settle .result; copied = c .signed .ensures; meets = rw (c .before .before .manner .ensures) at (c .before .settle .ensures) }
+returns c = record {
+  answer = c .before .settle .result;
+  copied = c .signed .ensures;
+  meets = rw (c .before .before .manner .ensures) at (c .before .settle .ensures);
+}
 
 pub tq-settle-signed-spec : {M : Type 1} → statement M
 tq-settle-signed-spec =

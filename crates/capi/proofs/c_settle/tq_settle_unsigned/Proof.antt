@@ -13,7 +13,11 @@ unsigned-requires : tie.Need-unsigned-requires
 unsigned-requires c κs = search needs
 
 returns : tie.Need-returns
-returns c = record { answer = c .before .settle .result; copied = c .unsigned .ensures; meets = rw (c .before .before .manner .ensures) at (c .before .settle .ensures) }
+returns c = record {
+  answer = c .before .settle .result;
+  copied = c .unsigned .ensures;
+  meets = rw (c .before .before .manner .ensures) at (c .before .settle .ensures);
+}
 
 pub tq-settle-unsigned-spec : {M : Type 1} → statement M
 tq-settle-unsigned-spec =

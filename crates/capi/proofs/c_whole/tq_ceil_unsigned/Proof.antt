@@ -13,7 +13,11 @@ unsigned-requires : tie.Need-unsigned-requires
 unsigned-requires c κs = search needs
 
 returns : tie.Need-returns
-returns c = record { answer = c .before .ceil .result; copied = c .unsigned .ensures; meets = rw (c .before .before .manner .ensures) at (c .before .ceil .ensures) }
+returns c = record {
+  answer = c .before .ceil .result;
+  copied = c .unsigned .ensures;
+  meets = rw (c .before .before .manner .ensures) at (c .before .ceil .ensures);
+}
 
 pub tq-ceil-unsigned-spec : {M : Type 1} → statement M
 tq-ceil-unsigned-spec = tie.close (tie.spec manner-requires ceil-requires unsigned-requires returns)

@@ -17,7 +17,11 @@ signed-requires c κs = search needs
 returns : tie.Need-returns
 returns c =
     let same-a = toZ-ofZ {w = w64} (c .before .before .before .fits .a) in
-    record { answer = c .before .floor .result; copied = c .signed .ensures; meets = rw (same-a, c .before .before .manner .ensures) at (c .before .floor .ensures) }
+    record {
+      answer = c .before .floor .result;
+      copied = c .signed .ensures;
+      meets = rw (same-a, c .before .before .manner .ensures) at (c .before .floor .ensures);
+    }
 
 pub tq-floor-signed-spec : {M : Type 1} → statement M
 tq-floor-signed-spec = tie.close (tie.spec manner-requires floor-requires signed-requires returns)

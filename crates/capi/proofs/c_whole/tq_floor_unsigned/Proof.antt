@@ -13,7 +13,11 @@ unsigned-requires : tie.Need-unsigned-requires
 unsigned-requires c κs = search needs
 
 returns : tie.Need-returns
-returns c = record { answer = c .before .floor .result; copied = c .unsigned .ensures; meets = rw (c .before .before .manner .ensures) at (c .before .floor .ensures) }
+returns c = record {
+  answer = c .before .floor .result;
+  copied = c .unsigned .ensures;
+  meets = rw (c .before .before .manner .ensures) at (c .before .floor .ensures);
+}
 
 pub tq-floor-unsigned-spec : {M : Type 1} → statement M
 tq-floor-unsigned-spec = tie.close (tie.spec manner-requires floor-requires unsigned-requires returns)

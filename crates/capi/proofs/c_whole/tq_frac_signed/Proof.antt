@@ -17,7 +17,11 @@ signed-requires c κs = search needs
 returns : tie.Need-returns
 returns c =
     let same-a = toZ-ofZ {w = w64} (c .before .before .before .fits .a) in
-    record { answer = c .before .frac .result; copied = c .signed .ensures; meets = rw (same-a, c .before .before .manner .ensures) at (c .before .frac .ensures) }
+    record {
+      answer = c .before .frac .result;
+      copied = c .signed .ensures;
+      meets = rw (same-a, c .before .before .manner .ensures) at (c .before .frac .ensures);
+    }
 
 pub tq-frac-signed-spec : {M : Type 1} → statement M
 tq-frac-signed-spec = tie.close (tie.spec manner-requires frac-requires signed-requires returns)

@@ -13,7 +13,11 @@ unsigned-requires : tie.Need-unsigned-requires
 unsigned-requires c κs = search needs
 
 returns : tie.Need-returns
-returns c = record { answer = c .before .frac .result; copied = c .unsigned .ensures; meets = rw (c .before .before .manner .ensures) at (c .before .frac .ensures) }
+returns c = record {
+  answer = c .before .frac .result;
+  copied = c .unsigned .ensures;
+  meets = rw (c .before .before .manner .ensures) at (c .before .frac .ensures);
+}
 
 pub tq-frac-unsigned-spec : {M : Type 1} → statement M
 tq-frac-unsigned-spec = tie.close (tie.spec manner-requires frac-requires unsigned-requires returns)

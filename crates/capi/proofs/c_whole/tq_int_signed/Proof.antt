@@ -17,7 +17,11 @@ signed-requires c κs = search needs
 returns : tie.Need-returns
 returns c =
     let same-a = toZ-ofZ {w = w64} (c .before .before .before .fits .a) in
-    record { answer = c .before .int .result; copied = c .signed .ensures; meets = rw (same-a, c .before .before .manner .ensures) at (c .before .int .ensures) }
+    record {
+      answer = c .before .int .result;
+      copied = c .signed .ensures;
+      meets = rw (same-a, c .before .before .manner .ensures) at (c .before .int .ensures);
+    }
 
 pub tq-int-signed-spec : {M : Type 1} → statement M
 tq-int-signed-spec = tie.close (tie.spec manner-requires int-requires signed-requires returns)

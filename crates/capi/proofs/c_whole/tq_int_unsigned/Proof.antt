@@ -13,7 +13,11 @@ unsigned-requires : tie.Need-unsigned-requires
 unsigned-requires c κs = search needs
 
 returns : tie.Need-returns
-returns c = record { answer = c .before .int .result; copied = c .unsigned .ensures; meets = rw (c .before .before .manner .ensures) at (c .before .int .ensures) }
+returns c = record {
+  answer = c .before .int .result;
+  copied = c .unsigned .ensures;
+  meets = rw (c .before .before .manner .ensures) at (c .before .int .ensures);
+}
 
 pub tq-int-unsigned-spec : {M : Type 1} → statement M
 tq-int-unsigned-spec = tie.close (tie.spec manner-requires int-requires unsigned-requires returns)

@@ -1,4 +1,5 @@
--- `capi::c_whole::tq_round_ties_even_signed` meets its contract: the manner's number stands for the manner, and an operand is read back from its bits. Assumes nothing.
+-- `capi::c_whole::tq_round_ties_even_signed` meets its contract: the manner's number stands for the
+-- manner, and an operand is read back from its bits. Assumes nothing.
 use mir.Syntax.{w64}
 use mir.Facts.{toZ-ofZ}
 use borrow.Author.Needs.{needs}
@@ -17,7 +18,11 @@ signed-requires c κs = search needs
 returns : tie.Need-returns
 returns c =
     let same-a = toZ-ofZ {w = w64} (c .before .before .before .fits .a) in
-    record { answer = c .before .round-ties-even .result; copied = c .signed .ensures; meets = rw (same-a, c .before .before .manner .ensures) at (c .before .round-ties-even .ensures) }
+    record {
+      answer = c .before .round-ties-even .result;
+      copied = c .signed .ensures;
+      meets = rw (same-a, c .before .before .manner .ensures) at (c .before .round-ties-even .ensures);
+    }
 
 pub tq-round-ties-even-signed-spec : {M : Type 1} → statement M
 tq-round-ties-even-signed-spec = tie.close (tie.spec manner-requires round-ties-even-requires signed-requires returns)

@@ -13,7 +13,11 @@ unsigned-requires : tie.Need-unsigned-requires
 unsigned-requires c κs = search needs
 
 returns : tie.Need-returns
-returns c = record { answer = c .before .round-ties-even .result; copied = c .unsigned .ensures; meets = rw (c .before .before .manner .ensures) at (c .before .round-ties-even .ensures) }
+returns c = record {
+  answer = c .before .round-ties-even .result;
+  copied = c .unsigned .ensures;
+  meets = rw (c .before .before .manner .ensures) at (c .before .round-ties-even .ensures);
+}
 
 pub tq-round-ties-even-unsigned-spec : {M : Type 1} → statement M
 tq-round-ties-even-unsigned-spec = tie.close (tie.spec manner-requires round-ties-even-requires unsigned-requires returns)

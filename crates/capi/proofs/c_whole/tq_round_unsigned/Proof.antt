@@ -13,7 +13,11 @@ unsigned-requires : tie.Need-unsigned-requires
 unsigned-requires c κs = search needs
 
 returns : tie.Need-returns
-returns c = record { answer = c .before .round .result; copied = c .unsigned .ensures; meets = rw (c .before .before .manner .ensures) at (c .before .round .ensures) }
+returns c = record {
+  answer = c .before .round .result;
+  copied = c .unsigned .ensures;
+  meets = rw (c .before .before .manner .ensures) at (c .before .round .ensures);
+}
 
 pub tq-round-unsigned-spec : {M : Type 1} → statement M
 tq-round-unsigned-spec = tie.close (tie.spec manner-requires round-requires unsigned-requires returns)

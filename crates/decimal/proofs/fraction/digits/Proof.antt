@@ -110,11 +110,14 @@ loop-again c =
     let zeros : c .spare .result ≡ spareOf (high % 10) low = c .spare .ensures in (
       omega (arith, inv .0),
       omega (arith, more m),
-      length-set (set text end (c .before .before .byte .result)) (end + 1) (c .before .byte2 .result) ∙ length-set text end (c .before .before .byte .result) ∙ inv .2,
+      length-set (set text end (c .before .before .byte .result)) (end + 1) (c .before .byte2 .result) ∙ length-set text end (c .before .before .byte .result)
+          ∙ inv .2,
       below,
       subst (λ (k : ℕ). Ends k (2 ^ 64) low) two (ends-pair (2 ^ 64) rest high low (lit< tt) below (m .mul .ensures) (first + f - end) (inv .3) some (inv .4)),
-      ap (λ (k : ℕ). take (end + 2) (set (set text end (c .before .before .byte .result)) (end + 1) (c .before .byte2 .result)) ++ map byteOf (fractionBy (2 ^ 64) k low)) (sym two)
-          ∙ pair-step (2 ^ 64) rest high low (lit< tt) below (m .mul .ensures) (first + f - end) end (c .before .before .byte .result) (c .before .byte2 .result) text (inv .3) some (inv .4)
+      ap (λ (k : ℕ). take (end + 2) (set (set text end (c .before .before .byte .result)) (end + 1) (c .before .byte2 .result))
+          ++ map byteOf (fractionBy (2 ^ 64) k low)) (sym two)
+          ∙ pair-step (2 ^ 64) rest high low (lit< tt) below (m .mul .ensures) (first + f - end) end (c .before .before .byte .result)
+          (c .before .byte2 .result) text (inv .3) some (inv .4)
           (omega (arith, more m, s .pre, inv .2)) (c .before .before .byte .ensures) (c .before .byte2 .ensures) before
           ∙ ap (λ (k : ℕ). goal ++ replicate k 48) (sym zeros),
       omega (arith, zeros, spare-most (high % 10) low),

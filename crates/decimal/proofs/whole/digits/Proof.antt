@@ -14,7 +14,8 @@ use Rattle.decimal.proofs.whole.digits.Tie as tie
 
 abbrev Inv-loop : tie.InvT-loop
 Inv-loop text₀ n at₀ rest₀ text at rest =
-    (at ≤ point) × (at + length (wholeText n) ≡ point + length (wholeText rest)) × (wholeText rest ++ drop at text ≡ wholeText n ++ drop point text₀) × (length text ≡ places) × (rest < 2 ^ 64)
+    (at ≤ point) × (at + length (wholeText n) ≡ point + length (wholeText rest)) × (wholeText rest ++ drop at text ≡ wholeText n ++ drop point text₀)
+    × (length text ≡ places) × (rest < 2 ^ 64)
 
 abbrev μ-loop : tie.MeasureT-loop
 μ-loop text₀ n at₀ rest₀ text at rest = rest
@@ -44,7 +45,8 @@ loop-again c =
     let n = l .before .args .n in
     let inv = l .loop .inv in
     let turn = c .before .loop-test .taken in
-    let more : length (wholeText rest) ≡ length (wholeText (rest / 10)) + 1 = ap length (whole-text-more rest turn) ∙ length-append (wholeText (rest / 10)) (byteOf (rest % 10) ∷ []) in
+    let more : length (wholeText rest) ≡ length (wholeText (rest / 10)) + 1 = ap length (whole-text-more rest turn)
+    ∙ length-append (wholeText (rest / 10)) (byteOf (rest % 10) ∷ []) in
     let some : 0 < at = omega (arith, inv, whole-text-some rest, whole-word n (l .before .fits .n .fits)) in (
       omega (arith, inv),
       omega (arith, inv, more),

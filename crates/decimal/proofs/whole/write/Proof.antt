@@ -20,7 +20,8 @@ returns c =
     let r = c .digits .result in
     let left = c .digits .last .0 in
     let text = c .before .before .before .args .text .now in
-    subst (λ (q : ℕ). (r + length (wholeText q) ≡ point) × (drop r left ≡ wholeText q ++ drop point text) × (length left ≡ places)) (c .before .part .ensures) (c .digits .ensures)
+    subst (λ (q : ℕ). (r + length (wholeText q) ≡ point) × (drop r left ≡ wholeText q ++ drop point text) × (length left ≡ places)) (c .before .part .ensures)
+    (c .digits .ensures)
 
 pub write-spec : {M : Type 1} → statement M
 write-spec = tie.close (tie.spec part-requires digits-requires returns)

@@ -23,7 +23,8 @@ abbrev μ-loop : tie.MeasureT-loop
 loop-holds : tie.Need-loop-holds Inv-loop μ-loop
 loop-holds c =
     let a = c .before .args in
-    start (a .taps .now) (a .line .now) (a .samples .now) (a .outputs .now) (a .clips .now) (c .before .pre .1 .0) (c .before .pre .1 .1 .0) (c .before .pre .1 .1 .1)
+    start (a .taps .now) (a .line .now) (a .samples .now) (a .outputs .now) (a .clips .now) (c .before .pre .1 .0) (c .before .pre .1 .1 .0)
+    (c .before .pre .1 .1 .1)
 
 mul-x : tie.Need-mul-x Inv-loop μ-loop
 mul-x c = search needs

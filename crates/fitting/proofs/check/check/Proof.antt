@@ -17,13 +17,17 @@ room-requires : tie.Need-room-requires
 room-requires c κs = search needs
 
 returns-3 : tie.Need-returns-3
-returns-3 c = checked-room _ _ _ _ _ (c .before .before .before .before .if1 .left) (c .before .before .before .count .ensures) (c .before .before .if2 .left) (c .before .room .ensures) (c .if3 .taken)
+returns-3 c =
+    checked-room _ _ _ _ _ (c .before .before .before .before .if1 .left) (c .before .before .before .count .ensures) (c .before .before .if2 .left)
+    (c .before .room .ensures) (c .if3 .taken)
 
 cast-t10 : tie.Need-cast-t10
 cast-t10 c = search needs
 
 returns-4 : tie.Need-returns-4
-returns-4 c = checked-fine _ _ _ _ _ (c .before .before .before .before .if1 .left) (c .before .before .before .count .ensures) (c .before .before .if2 .left) (c .before .room .ensures) (c .if3 .left)
+returns-4 c =
+    checked-fine _ _ _ _ _ (c .before .before .before .before .if1 .left) (c .before .before .before .count .ensures) (c .before .before .if2 .left)
+    (c .before .room .ensures) (c .if3 .left)
 
 pub check-spec : {M : Type 1} → statement M
 check-spec =

@@ -46,7 +46,8 @@ scaled-requires c κs = omega (arith, c .before .before .significand .ensures .b
 returns-2 : tie.Need-returns-2
 returns-2 c =
     let l = c .before .before .before .before .before .before in
-    folds-finite _ _ _ (l .before .biased .ensures) (c .before .before .before .before .trailing .ensures) (l .last .ensures) (c .before .before .before .before .before .if1 .left)
+    folds-finite _ _ _ (l .before .biased .ensures) (c .before .before .before .before .trailing .ensures) (l .last .ensures)
+    (c .before .before .before .before .before .if1 .left)
     (c .before .before .before .significand .ensures) (c .before .before .place .ensures) (c .before .least .ensures) (c .scaled .ensures)
 
 pub magnitude-spec : {M : Type 1} → statement M

@@ -35,8 +35,11 @@ loop-less c = omega arith
 loop-again : tie.Need-loop-again Inv-loop μ-loop
 loop-again c =
     let s = c .before .before .before .before .before .before in
-    let l = c .before .before .before .loop in
-    (omega arith, taken-more (s .args .body .now) (s .args .from) (s .args .radix) (l .inv .1) (c .before .next-digit .ensures) (s .pre .0) (omega arith) (c .times .ensures))
+    let l = c .before .before .before .loop in (
+      omega arith,
+      taken-more (s .args .body .now) (s .args .from) (s .args .radix) (l .inv .1) (c .before .next-digit .ensures) (s .pre .0) (omega arith)
+          (c .times .ensures),
+    )
 
 returns : tie.Need-returns Inv-loop μ-loop
 returns c =

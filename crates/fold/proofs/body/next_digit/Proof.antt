@@ -46,7 +46,8 @@ add-t12 c = omega arith
 
 returns : tie.Need-returns Inv-loop μ-loop
 returns c =
-    next-found (c .before .before .before .before .before .loop .inv .1) (omega arith) (sym (c .before .before .is-gap .ensures) ∙ c .before .if1 .left) (c .digit-of .ensures)
+    next-found (c .before .before .before .before .before .loop .inv .1) (omega arith) (sym (c .before .before .is-gap .ensures) ∙ c .before .if1 .left)
+    (c .digit-of .ensures)
 
 returns-2 : tie.Need-returns-2 Inv-loop μ-loop
 returns-2 c = next-none (c .before .loop .inv .1) (omega arith) (omega arith)

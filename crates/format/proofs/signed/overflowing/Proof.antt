@@ -29,7 +29,8 @@ returns c =
     let a = c .before .before .before .before .before .args in
     let r = c .before .resigned in
     done-signed
-    (overflowing-done signed (a .width) (a .neg) (a .high) (a .low) (c .before .before .before .before .limit .ensures) (c .before .before .before .place .ensures)
+    (overflowing-done signed (a .width) (a .neg) (a .high) (a .low) (c .before .before .before .before .limit .ensures)
+    (c .before .before .before .place .ensures)
     (bits-signed (a .width) (a .neg) (a .high) (a .low) (c .before .before .before .before .before .pre) (c .before .before .residue .ensures)))
     (ok-back w64 (r .result) (r .ok) ∙ r .ensures)
 

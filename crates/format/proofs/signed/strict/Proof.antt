@@ -25,7 +25,8 @@ returns : tie.Need-returns
 returns c =
     let a = c .before .before .before .before .args in
     done-signed
-    (strict-done signed (a .width) (a .neg) (a .high) (a .low) (c .before .before .before .limit .ensures) (c .before .before .place .ensures) (c .before .if1 .taken))
+    (strict-done signed (a .width) (a .neg) (a .high) (a .low) (c .before .before .before .limit .ensures) (c .before .before .place .ensures)
+    (c .before .if1 .taken))
     (ok-back w64 (c .with-sign .result) (c .with-sign .ok) ∙ c .with-sign .ensures)
 
 returns-2 : tie.Need-returns-2

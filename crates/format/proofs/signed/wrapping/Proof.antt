@@ -22,7 +22,8 @@ resigned-requires c κs =
 returns : tie.Need-returns
 returns c =
     let a = c .before .before .args in
-    done-signed (wrapping-done signed (a .width) (exact (a .neg) (a .high) (a .low)) (bits-signed (a .width) (a .neg) (a .high) (a .low) (c .before .before .pre) (c .before .residue .ensures)))
+    done-signed (wrapping-done signed (a .width) (exact (a .neg) (a .high) (a .low))
+    (bits-signed (a .width) (a .neg) (a .high) (a .low) (c .before .before .pre) (c .before .residue .ensures)))
     (ok-back w64 (c .resigned .result) (c .resigned .ok) ∙ c .resigned .ensures)
 
 pub wrapping-spec : {M : Type 1} → statement M

@@ -14,7 +14,8 @@ returns : tie.Need-returns
 returns c =
     let a = c .before .args in
     done-unsigned
-    (wrapping-done unsigned (a .width) (exact (a .neg) (a .high) (a .low)) (bits-unsigned (a .width) (a .neg) (a .high) (a .low) (c .before .pre) (c .residue .ensures)))
+    (wrapping-done unsigned (a .width) (exact (a .neg) (a .high) (a .low))
+    (bits-unsigned (a .width) (a .neg) (a .high) (a .low) (c .before .pre) (c .residue .ensures)))
     refl
 
 pub wrapping-spec : {M : Type 1} → statement M

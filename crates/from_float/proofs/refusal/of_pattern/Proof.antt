@@ -19,7 +19,8 @@ of-infinity-requires c κs = search needs
 returns : tie.Need-returns
 returns c =
     let l = c .before .before .before in
-    fault-infinite _ _ (l .before .before .biased .ensures) (l .last .ensures) _ (c .before .before .if1 .taken) (l .before .trailing .ensures) (c .before .if2 .taken) (c .of-infinity .ensures)
+    fault-infinite _ _ (l .before .before .biased .ensures) (l .last .ensures) _ (c .before .before .if1 .taken) (l .before .trailing .ensures)
+    (c .before .if2 .taken) (c .of-infinity .ensures)
 
 returns-2 : tie.Need-returns-2
 returns-2 c =

@@ -19,7 +19,9 @@ settle-requires : tie.Need-settle-requires
 settle-requires c κs = search needs
 
 returns : tie.Need-returns
-returns c = settled-signed _ _ _ (via (λ (z : ℤ). pos (natAbs z)) (c .before .before .of-signed .ensures ∙ toZ-ofZ {w = w64} (c .before .before .before .fits .a)) (c .before .abs .ensures)) (c .settle .ensures)
+returns c =
+    settled-signed _ _ _ (via (λ (z : ℤ). pos (natAbs z)) (c .before .before .of-signed .ensures ∙ toZ-ofZ {w = w64} (c .before .before .before .fits .a))
+    (c .before .abs .ensures)) (c .settle .ensures)
 
 pub abs-spec : {M : Type 1} → statement M
 abs-spec = tie.close (tie.spec of-signed-requires abs-requires settle-requires returns)

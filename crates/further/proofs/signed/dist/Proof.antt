@@ -22,7 +22,10 @@ settle-requires : tie.Need-settle-requires
 settle-requires c κs = search needs
 
 returns : tie.Need-returns
-returns c = settled-signed _ _ _ (via₂ (λ (x y : ℤ). pos (natAbs (x -ℤ y))) (c .before .before .before .of-signed .ensures ∙ toZ-ofZ {w = w64} (c .before .before .before .before .fits .a)) (c .before .before .of-signed2 .ensures ∙ toZ-ofZ {w = w64} (c .before .before .before .before .fits .b)) (c .before .dist .ensures)) (c .settle .ensures)
+returns c =
+    settled-signed _ _ _ (via₂ (λ (x y : ℤ). pos (natAbs (x -ℤ y)))
+    (c .before .before .before .of-signed .ensures ∙ toZ-ofZ {w = w64} (c .before .before .before .before .fits .a))
+    (c .before .before .of-signed2 .ensures ∙ toZ-ofZ {w = w64} (c .before .before .before .before .fits .b)) (c .before .dist .ensures)) (c .settle .ensures)
 
 pub dist-spec : {M : Type 1} → statement M
 dist-spec =

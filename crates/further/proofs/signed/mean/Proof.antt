@@ -23,7 +23,10 @@ settle-requires : tie.Need-settle-requires
 settle-requires c κs = search needs
 
 returns : tie.Need-returns
-returns c = settled-signed _ _ _ (via₂ (λ (x y : ℤ). floor (x +ℤ y) 2) (c .before .before .before .of-signed .ensures ∙ toZ-ofZ {w = w64} (c .before .before .before .before .fits .a)) (c .before .before .of-signed2 .ensures ∙ toZ-ofZ {w = w64} (c .before .before .before .before .fits .b)) (c .before .mean .ensures)) (c .settle .ensures)
+returns c =
+    settled-signed _ _ _ (via₂ (λ (x y : ℤ). floor (x +ℤ y) 2)
+    (c .before .before .before .of-signed .ensures ∙ toZ-ofZ {w = w64} (c .before .before .before .before .fits .a))
+    (c .before .before .of-signed2 .ensures ∙ toZ-ofZ {w = w64} (c .before .before .before .before .fits .b)) (c .before .mean .ensures)) (c .settle .ensures)
 
 pub mean-spec : {M : Type 1} → statement M
 mean-spec =

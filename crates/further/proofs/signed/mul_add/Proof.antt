@@ -29,7 +29,11 @@ settle-requires c κs = search needs
 returns : tie.Need-returns
 returns c =
     let f = c .before .before .before .before .before .args .frac in
-    settled-signed _ f _ (via₃ (λ (x y z : ℤ). floor (x *ℤ y) (2 ^ f) +ℤ z) (c .before .before .before .before .of-signed .ensures ∙ toZ-ofZ {w = w64} (c .before .before .before .before .before .fits .a)) (c .before .before .before .of-signed2 .ensures ∙ toZ-ofZ {w = w64} (c .before .before .before .before .before .fits .b)) (c .before .before .of-signed3 .ensures ∙ toZ-ofZ {w = w64} (c .before .before .before .before .before .fits .c)) (c .before .mul-add .ensures)) (c .settle .ensures)
+    settled-signed _ f _ (via₃ (λ (x y z : ℤ). floor (x *ℤ y) (2 ^ f) +ℤ z)
+    (c .before .before .before .before .of-signed .ensures ∙ toZ-ofZ {w = w64} (c .before .before .before .before .before .fits .a))
+    (c .before .before .before .of-signed2 .ensures ∙ toZ-ofZ {w = w64} (c .before .before .before .before .before .fits .b))
+    (c .before .before .of-signed3 .ensures ∙ toZ-ofZ {w = w64} (c .before .before .before .before .before .fits .c)) (c .before .mul-add .ensures))
+    (c .settle .ensures)
 
 pub mul-add-spec : {M : Type 1} → statement M
 mul-add-spec =

@@ -19,7 +19,9 @@ settle-requires : tie.Need-settle-requires
 settle-requires c κs = search needs
 
 returns : tie.Need-returns
-returns c = settled-unsigned _ _ _ (via₂ (λ (x y : ℤ). pos (natAbs (x -ℤ y))) (c .before .before .before .of-unsigned .ensures) (c .before .before .of-unsigned2 .ensures) (c .before .dist .ensures)) (c .settle .ensures)
+returns c =
+    settled-unsigned _ _ _ (via₂ (λ (x y : ℤ). pos (natAbs (x -ℤ y))) (c .before .before .before .of-unsigned .ensures)
+    (c .before .before .of-unsigned2 .ensures) (c .before .dist .ensures)) (c .settle .ensures)
 
 pub dist-spec : {M : Type 1} → statement M
 dist-spec =

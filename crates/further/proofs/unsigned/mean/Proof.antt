@@ -20,7 +20,9 @@ settle-requires : tie.Need-settle-requires
 settle-requires c κs = search needs
 
 returns : tie.Need-returns
-returns c = settled-unsigned _ _ _ (via₂ (λ (x y : ℤ). floor (x +ℤ y) 2) (c .before .before .before .of-unsigned .ensures) (c .before .before .of-unsigned2 .ensures) (c .before .mean .ensures)) (c .settle .ensures)
+returns c =
+    settled-unsigned _ _ _ (via₂ (λ (x y : ℤ). floor (x +ℤ y) 2) (c .before .before .before .of-unsigned .ensures) (c .before .before .of-unsigned2 .ensures)
+    (c .before .mean .ensures)) (c .settle .ensures)
 
 pub mean-spec : {M : Type 1} → statement M
 mean-spec =

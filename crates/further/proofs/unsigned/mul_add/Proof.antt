@@ -26,7 +26,8 @@ settle-requires c κs = search needs
 returns : tie.Need-returns
 returns c =
     let f = c .before .before .before .before .before .args .frac in
-    settled-unsigned _ f _ (via₃ (λ (x y z : ℤ). floor (x *ℤ y) (2 ^ f) +ℤ z) (c .before .before .before .before .of-unsigned .ensures) (c .before .before .before .of-unsigned2 .ensures) (c .before .before .of-unsigned3 .ensures) (c .before .mul-add .ensures)) (c .settle .ensures)
+    settled-unsigned _ f _ (via₃ (λ (x y z : ℤ). floor (x *ℤ y) (2 ^ f) +ℤ z) (c .before .before .before .before .of-unsigned .ensures)
+    (c .before .before .before .of-unsigned2 .ensures) (c .before .before .of-unsigned3 .ensures) (c .before .mul-add .ensures)) (c .settle .ensures)
 
 pub mul-add-spec : {M : Type 1} → statement M
 mul-add-spec =

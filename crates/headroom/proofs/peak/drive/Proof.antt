@@ -56,7 +56,8 @@ loop-again c =
       omega arith,
       (
         simp length-set (inv .1 .0),
-        map-step _ taps (c .before .before .before .loop .line) i (pos 0) _ (omega arith) (omega arith) (inv .1 .1) (ok-back w16 (c .driven .result) (c .driven .ok) ∙ told),
+        map-step _ taps (c .before .before .before .loop .line) i (pos 0) _ (omega arith) (omega arith) (inv .1 .1)
+            (ok-back w16 (c .driven .result) (c .driven .ok) ∙ told),
       ),
     )
 

@@ -48,7 +48,14 @@ loop-again c =
       omega arith,
       (
         simp length-set (inv .1 .0),
-        rw (add-one, take-suc-set (c .before .before .loop .witness) i _ (omega arith), take-suc line i (pos 0) (omega arith), inv .1 .1, ok-back w16 (getD line i (pos 0)) (c .s .given)),
+        rw (
+          add-one,
+          take-suc-set (c .before .before .loop .witness) i _ (omega arith),
+          take-suc line i (pos 0) (omega arith),
+          inv .1 .1,
+          ok-back w16
+              (getD line i (pos 0)) (c .s .given),
+        ),
       ),
     )
 

@@ -28,7 +28,8 @@ same-length : tie.Need-same-length
 same-length c = search needs
 
 -- the two tests, of the meaning
-high : (c : tie.After-level) (t : Bool) → ltZ (pos 32767) (toZ w64 (ofZ w64 (c .level .result))) ≡ t → clipsWay High (c .before .before .before .args .taps .now) ≡ t
+high : (c : tie.After-level) (t : Bool) → ltZ (pos 32767) (toZ w64 (ofZ w64 (c .level .result))) ≡ t
+    → clipsWay High (c .before .before .before .args .taps .now) ≡ t
 unfolding passes highest
 high c t h =
     let line = c .before .before .drive in
@@ -36,12 +37,14 @@ high c t h =
     test-way High (c .before .before .before .args .taps .now) (line .result) (level .result) t (level .ensures) (line .ensures .1)
     (rw (ok-back w64 (level .result) (level .ok)) at h)
 
-low : (c : tie.After-level2) (t : Bool) → ltZ (toZ w64 (ofZ w64 (c .level2 .result))) (negsuc 32767) ≡ t → clipsWay Low (c .before .before .before .before .before .before .before .args .taps .now) ≡ t
+low : (c : tie.After-level2) (t : Bool) → ltZ (toZ w64 (ofZ w64 (c .level2 .result))) (negsuc 32767) ≡ t
+    → clipsWay Low (c .before .before .before .before .before .before .before .args .taps .now) ≡ t
 unfolding passes lowest
 low c t h =
     let line = c .before .before .drive2 in
     let level = c .level2 in
-    test-way Low (c .before .before .before .before .before .before .before .args .taps .now) (line .result) (level .result) t (level .ensures) (line .ensures .1)
+    test-way Low (c .before .before .before .before .before .before .before .args .taps .now) (line .result) (level .result) t (level .ensures)
+    (line .ensures .1)
     (rw (ok-back w64 (level .result) (level .ok)) at h)
 
 returns : tie.Need-returns

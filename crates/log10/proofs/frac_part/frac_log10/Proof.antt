@@ -27,14 +27,22 @@ add-result c =
 returns : tie.Need-returns
 returns c =
     let a = c .before .before .before in
-    let b = c .before .before .of-bits in
-    (omega arith, frac-most (a .args .x) (b .result) (a .pre) (a .fits .x .fits) (b .ensures), limit-in (a .args .x) _ _ (c .before .limit .ensures) (omega arith))
+    let b = c .before .before .of-bits in (
+      omega arith,
+      frac-most (a .args .x) (b .result) (a .pre) (a .fits .x .fits) (b .ensures),
+      limit-in (a .args .x) _ _ (c .before .limit .ensures)
+          (omega arith),
+    )
 
 returns-2 : tie.Need-returns-2
 returns-2 c =
     let a = c .before .before .before in
-    let b = c .before .before .of-bits in
-    (omega arith, limit-out (a .args .x) _ _ (c .before .limit .ensures) (omega arith), frac-least (a .args .x) (b .result) (a .pre) (a .fits .x .fits) (b .ensures))
+    let b = c .before .before .of-bits in (
+      omega arith,
+      limit-out (a .args .x) _ _ (c .before .limit .ensures) (omega arith),
+      frac-least (a .args .x) (b .result) (a .pre) (a .fits .x .fits)
+          (b .ensures),
+    )
 
 pub frac-log10-spec : {M : Type 1} → statement M
 frac-log10-spec =

@@ -26,7 +26,8 @@ read-requires-2 c κs = search needs
 returns-2 : tie.Need-returns-2
 returns-2 c =
     let a = c .before .before .before .args in
-    c .read2 .ensures ∙ ap (λ (l : List ℕ). signedAnswer (readOf (a .manner) signed (a .width) (a .frac) 10 l)) (all-taken (a .out .now) (a .n) (c .before .if1 .left))
+    c .read2 .ensures ∙ ap (λ (l : List ℕ). signedAnswer (readOf (a .manner) signed (a .width) (a .frac) 10 l))
+    (all-taken (a .out .now) (a .n) (c .before .if1 .left))
 
 pub read-back-spec : {M : Type 1} → statement M
 read-back-spec =

@@ -22,7 +22,8 @@ same-length c = search needs
 returns : tie.Need-returns
 returns c =
     let a = c .before .before .before .before .before .before .before .before .before .before .args in
-    read-again-unsigned (a .raw) (a .width) (a .frac) (a .out .now) (c .before .before .before .before .before .before .before .write .ensures) (a .manner) (c .before .before .before .written .given .1) (c .read-back .ensures)
+    read-again-unsigned (a .raw) (a .width) (a .frac) (a .out .now) (c .before .before .before .before .before .before .before .write .ensures) (a .manner)
+    (c .before .before .before .written .given .1) (c .read-back .ensures)
 
 same-length-2 : tie.Need-same-length-2
 same-length-2 c = search needs
@@ -30,7 +31,8 @@ same-length-2 c = search needs
 returns-2 : tie.Need-returns-2
 returns-2 c =
     let a = c .before .before .before .before .before .before .before .before .args in
-    never-refused-unsigned (a .raw) (a .width) (a .frac) (a .out .now) (c .before .before .before .before .before .write .ensures) (c .before .written2 .given .1)
+    never-refused-unsigned (a .raw) (a .width) (a .frac) (a .out .now) (c .before .before .before .before .before .write .ensures)
+    (c .before .written2 .given .1)
 
 pub again-spec : {M : Type 1} → statement M
 again-spec =

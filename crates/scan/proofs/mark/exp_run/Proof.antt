@@ -16,7 +16,8 @@ use Rattle.scan.proofs.mark.exp_run.Tie as tie
 abbrev Inv-loop : tie.InvT-loop
 Inv-loop text from radix skip p down e₀ seen₀ i₀ e seen i =
     (i ≤ length text) × (e ≤ 2147483648) × (down ≡ p .down)
-    × (reading (sepOf skip) radix (drop i text) (expAt seen (writtenOf text p) e) ≡ reading (sepOf skip) radix (drop from text) (at exponent sign (writtenOf text p)))
+    × (reading (sepOf skip) radix (drop i text) (expAt seen (writtenOf text p) e)
+    ≡ reading (sepOf skip) radix (drop from text) (at exponent sign (writtenOf text p)))
 
 abbrev μ-loop : tie.MeasureT-loop
 μ-loop text from radix skip p down e₀ seen₀ i₀ e seen i = length text - i
@@ -42,7 +43,8 @@ unfolding writtenOf
 returns c =
     let a = c .before .before .before .before .before .before .before .before .args in
     let l = c .before .before .before .before .before .before .loop in
-    exp-stop (a .skip) (a .radix) (a .text .now) (l .i) (writtenOf (a .text .now) (a .p)) (l .seen) (l .e) (l .inv .3) (omega arith) (c .before .before .before .exp-step .ensures) (c .before .n .given .1)
+    exp-stop (a .skip) (a .radix) (a .text .now) (l .i) (writtenOf (a .text .now) (a .p)) (l .seen) (l .e) (l .inv .3) (omega arith)
+    (c .before .before .before .exp-step .ensures) (c .before .n .given .1)
 
 add-i : tie.Need-add-i Inv-loop μ-loop
 add-i c = search needs

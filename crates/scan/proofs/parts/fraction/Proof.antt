@@ -18,8 +18,10 @@ returns c =
     let a = c .before .before .before .before .args in
     let t = a .text .now in
     let run = c .before .before .run-at .ensures in
-    part-end t (a .from) (a .radix) (a .skip) (c .before .before .before .before .pre .1) true (wholeOf t (a .neg) (a .whole)) (fracParsed (a .neg) (a .whole) (c .before .before .run-at .result))
-    (frac-ready t (a .from) (a .radix) (a .skip) run (c .before .before .before .before .pre .0) (c .before .before .before .before .pre .1) (a .neg) (a .whole) (c .before .before .before .before .pre .2))
+    part-end t (a .from) (a .radix) (a .skip) (c .before .before .before .before .pre .1) true (wholeOf t (a .neg) (a .whole))
+    (fracParsed (a .neg) (a .whole) (c .before .before .run-at .result))
+    (frac-ready t (a .from) (a .radix) (a .skip) run (c .before .before .before .before .pre .0) (c .before .before .before .before .pre .1) (a .neg) (a .whole)
+    (c .before .before .before .before .pre .2))
     (run-to t (a .from) (a .radix) (a .skip) run) (frac-same t (a .from) (a .radix) (a .skip) run (a .neg) (a .whole)) (omega arith) (c .unmarked .ensures)
 
 shared-slice-read-class-of : tie.Need-shared-slice-read-class-of
@@ -33,17 +35,24 @@ add-after-run c = search needs
 
 after-run-requires : tie.Need-after-run-requires
 after-run-requires c κs =
-    let a = c .before .before .before .before .before .args in
-    (search needs, frac-ready (a .text .now) (a .from) (a .radix) (a .skip) (c .before .before .before .run-at .ensures) (c .before .before .before .before .before .pre .0) (c .before .before .before .before .before .pre .1) (a .neg) (a .whole) (c .before .before .before .before .before .pre .2))
+    let a = c .before .before .before .before .before .args in (
+      search needs,
+      frac-ready (a .text .now) (a .from) (a .radix) (a .skip) (c .before .before .before .run-at .ensures)
+          (c .before .before .before .before .before .pre .0) (c .before .before .before .before .before .pre .1) (a .neg) (a .whole)
+          (c .before .before .before .before .before .pre .2),
+    )
 
 returns-2 : tie.Need-returns-2
 returns-2 c =
     let a = c .before .before .before .before .before .before .args in
     let t = a .text .now in
     let run = c .before .before .before .before .run-at .ensures in
-    part-after t (a .from) (a .radix) (a .skip) (c .before .before .before .before .before .before .pre .1) true (wholeOf t (a .neg) (a .whole)) (fracParsed (a .neg) (a .whole) (c .before .before .before .before .run-at .result))
-    (frac-ready t (a .from) (a .radix) (a .skip) run (c .before .before .before .before .before .before .pre .0) (c .before .before .before .before .before .before .pre .1) (a .neg) (a .whole) (c .before .before .before .before .before .before .pre .2))
-    (run-to t (a .from) (a .radix) (a .skip) run) (frac-same t (a .from) (a .radix) (a .skip) run (a .neg) (a .whole)) (omega arith) (λ z. absurd (true≢false z)) (c .before .class-of .ensures) (c .after-run .ensures)
+    part-after t (a .from) (a .radix) (a .skip) (c .before .before .before .before .before .before .pre .1) true (wholeOf t (a .neg) (a .whole))
+    (fracParsed (a .neg) (a .whole) (c .before .before .before .before .run-at .result))
+    (frac-ready t (a .from) (a .radix) (a .skip) run (c .before .before .before .before .before .before .pre .0)
+    (c .before .before .before .before .before .before .pre .1) (a .neg) (a .whole) (c .before .before .before .before .before .before .pre .2))
+    (run-to t (a .from) (a .radix) (a .skip) run) (frac-same t (a .from) (a .radix) (a .skip) run (a .neg) (a .whole)) (omega arith)
+    (λ z. absurd (true≢false z)) (c .before .class-of .ensures) (c .after-run .ensures)
 
 pub fraction-spec : {M : Type 1} → statement M
 fraction-spec =

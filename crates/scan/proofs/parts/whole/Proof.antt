@@ -20,7 +20,8 @@ returns c =
     let a = c .before .before .before .before .args in
     let t = a .text .now in
     let run = c .before .before .run-at .ensures in
-    part-end t (a .from) (a .radix) (a .skip) (c .before .before .before .before .pre .1) false (blank (a .neg)) (wholeParsed (a .neg) (c .before .before .run-at .result))
+    part-end t (a .from) (a .radix) (a .skip) (c .before .before .before .before .pre .1) false (blank (a .neg))
+    (wholeParsed (a .neg) (c .before .before .run-at .result))
     (whole-ready t (a .from) (a .radix) (a .skip) run (c .before .before .before .before .pre .0) (c .before .before .before .before .pre .1) (a .neg))
     (run-to t (a .from) (a .radix) (a .skip) run) (whole-same t (a .from) (a .radix) (a .skip) run (a .neg)) (omega arith) (c .unmarked .ensures)
 
@@ -52,8 +53,10 @@ returns-2 c =
     let a = c .before .before .before .before .before .before .args in
     let t = a .text .now in
     let run = c .before .before .before .before .run-at .ensures in
-    part-point t (a .from) (a .radix) (a .skip) (c .before .before .before .before .before .before .pre .1) (blank (a .neg)) (wholeOf t (a .neg) (c .before .before .before .before .run-at .result))
-    (run-to t (a .from) (a .radix) (a .skip) run) (whole-is t (a .from) (a .radix) (a .skip) run (a .neg)) (omega arith) (c .before .if2 .taken) (c .fraction .ensures)
+    part-point t (a .from) (a .radix) (a .skip) (c .before .before .before .before .before .before .pre .1) (blank (a .neg))
+    (wholeOf t (a .neg) (c .before .before .before .before .run-at .result))
+    (run-to t (a .from) (a .radix) (a .skip) run) (whole-is t (a .from) (a .radix) (a .skip) run (a .neg)) (omega arith) (c .before .if2 .taken)
+    (c .fraction .ensures)
 
 class-of-requires : tie.Need-class-of-requires
 class-of-requires c κs = search needs
@@ -63,17 +66,23 @@ add-after-run c = search needs
 
 after-run-requires : tie.Need-after-run-requires
 after-run-requires c κs =
-    let a = c .before .before .before .before .before .before .args in
-    (search needs, whole-ready (a .text .now) (a .from) (a .radix) (a .skip) (c .before .before .before .before .run-at .ensures) (c .before .before .before .before .before .before .pre .0) (c .before .before .before .before .before .before .pre .1) (a .neg))
+    let a = c .before .before .before .before .before .before .args in (
+      search needs,
+      whole-ready (a .text .now) (a .from) (a .radix) (a .skip) (c .before .before .before .before .run-at .ensures)
+          (c .before .before .before .before .before .before .pre .0) (c .before .before .before .before .before .before .pre .1) (a .neg),
+    )
 
 returns-3 : tie.Need-returns-3
 returns-3 c =
     let a = c .before .before .before .before .before .before .before .args in
     let t = a .text .now in
     let run = c .before .before .before .before .before .run-at .ensures in
-    part-after t (a .from) (a .radix) (a .skip) (c .before .before .before .before .before .before .before .pre .1) false (blank (a .neg)) (wholeParsed (a .neg) (c .before .before .before .before .before .run-at .result))
-    (whole-ready t (a .from) (a .radix) (a .skip) run (c .before .before .before .before .before .before .before .pre .0) (c .before .before .before .before .before .before .before .pre .1) (a .neg))
-    (run-to t (a .from) (a .radix) (a .skip) run) (whole-same t (a .from) (a .radix) (a .skip) run (a .neg)) (omega arith) (λ z b. c .before .before .if2 .left b) (c .before .class-of .ensures) (c .after-run .ensures)
+    part-after t (a .from) (a .radix) (a .skip) (c .before .before .before .before .before .before .before .pre .1) false (blank (a .neg))
+    (wholeParsed (a .neg) (c .before .before .before .before .before .run-at .result))
+    (whole-ready t (a .from) (a .radix) (a .skip) run (c .before .before .before .before .before .before .before .pre .0)
+    (c .before .before .before .before .before .before .before .pre .1) (a .neg))
+    (run-to t (a .from) (a .radix) (a .skip) run) (whole-same t (a .from) (a .radix) (a .skip) run (a .neg)) (omega arith)
+    (λ z b. c .before .before .if2 .left b) (c .before .class-of .ensures) (c .after-run .ensures)
 
 pub whole-spec : {M : Type 1} → statement M
 whole-spec =

@@ -18,7 +18,8 @@ past-requires : tie.Need-past-requires
 past-requires c κs = search needs
 
 returns-3 : tie.Need-returns-3
-returns-3 c = or-second _ (c .before .before .before .check .ensures) (c .before .before .if1 .left) (count-past _ _ _ (c .before .if2 .left) (c .past .ensures))
+returns-3 c =
+    or-second _ (c .before .before .before .check .ensures) (c .before .before .if1 .left) (count-past _ _ _ (c .before .if2 .left) (c .past .ensures))
 
 pub of-count-spec : {M : Type 1} → statement M
 of-count-spec = tie.close (tie.spec check-requires returns returns-2 past-requires returns-3)

@@ -1,4 +1,5 @@
--- `shift::signed::shr` meets its promise: the refusals first, then the floor of the raw over a power of two, wrapped, with the flag of the count. Assumes nothing.
+-- `shift::signed::shr` meets its promise: the refusals first, then the floor of the raw over a power
+-- of two, wrapped, with the flag of the count. Assumes nothing.
 use mathlib.Core.Path.{_∙_}
 use mir.Syntax.{w64}
 use mir.Facts.{toZ-ofZ}
@@ -38,8 +39,12 @@ returns : tie.Need-returns
 returns c =
     let a = c .before .before .before .before .before .before .before .args in
     let y = c .before .before .before .before .of-signed .result in
-    shifted-signed (a .width) (a .frac) (a .count) (a .manner) (c .before .before .before .before .before .before .of-count .ensures) (c .before .before .before .before .before .if1 .taken)
-    (via (λ (x : ℤ). floor x (2 ^ (a .count % a .width))) (one-word (y .neg) (y .size) ∙ c .before .before .before .before .of-signed .ensures ∙ toZ-ofZ {w = w64} (c .before .before .before .before .before .before .before .fits .a)) (c .before .before .before .floor .ensures)) (c .before .flag .ensures) (c .before .before .fit .ensures) (c .flagged .ensures)
+    shifted-signed (a .width) (a .frac) (a .count) (a .manner) (c .before .before .before .before .before .before .of-count .ensures)
+    (c .before .before .before .before .before .if1 .taken)
+    (via (λ (x : ℤ). floor x (2 ^ (a .count % a .width)))
+    (one-word (y .neg) (y .size) ∙ c .before .before .before .before .of-signed .ensures
+    ∙ toZ-ofZ {w = w64} (c .before .before .before .before .before .before .before .fits .a)) (c .before .before .before .floor .ensures))
+    (c .before .flag .ensures) (c .before .before .fit .ensures) (c .flagged .ensures)
 
 returns-2 : tie.Need-returns-2
 returns-2 c = fault-signed _ _ (c .before .of-count .ensures) (c .if1 .left)

@@ -38,8 +38,10 @@ flagged-requires c κs = search needs
 returns : tie.Need-returns
 returns c =
     let a = c .before .before .before .before .before .before .before .args in
-    shifted-unsigned (a .width) (a .frac) (a .count) (a .manner) (c .before .before .before .before .before .before .of-count .ensures) (c .before .before .before .before .before .if1 .taken)
-    (via (λ (x : ℤ). x *ℤ pos (2 ^ (a .count % a .width))) (c .before .before .before .before .of-unsigned .ensures) (c .before .before .before .shifted-left .ensures)) (c .before .flag .ensures) (c .before .before .fit .ensures) (c .flagged .ensures)
+    shifted-unsigned (a .width) (a .frac) (a .count) (a .manner) (c .before .before .before .before .before .before .of-count .ensures)
+    (c .before .before .before .before .before .if1 .taken)
+    (via (λ (x : ℤ). x *ℤ pos (2 ^ (a .count % a .width))) (c .before .before .before .before .of-unsigned .ensures)
+    (c .before .before .before .shifted-left .ensures)) (c .before .flag .ensures) (c .before .before .fit .ensures) (c .flagged .ensures)
 
 returns-2 : tie.Need-returns-2
 returns-2 c = fault-unsigned _ _ (c .before .of-count .ensures) (c .if1 .left)

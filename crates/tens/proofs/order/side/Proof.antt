@@ -22,7 +22,8 @@ returns c =
     let a = c .before .before .before .before in
     let ds = digitsAt (a .args .body .now) (a .args .from) in
     c .walk .ensures
-    ∙ ap (λ (n : ℕ). orderTen ds n (2 ^ 64)) (c .before .sink .ensures ∙ ap (λ (n : ℕ). sinkOf (a .args .zeros) n (2 ^ 64)) (c .before .before .middle .ensures))
+    ∙ ap (λ (n : ℕ). orderTen ds n (2 ^ 64))
+    (c .before .sink .ensures ∙ ap (λ (n : ℕ). sinkOf (a .args .zeros) n (2 ^ 64)) (c .before .before .middle .ensures))
     ∙ sym (order-sink (a .args .zeros) ds _ (2 ^ 64) (lit< tt) (a .pre .2))
 
 pub side-spec : {M : Type 1} → statement M

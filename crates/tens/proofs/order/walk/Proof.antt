@@ -14,7 +14,8 @@ use Rattle.tens.proofs.order.walk.Tie as tie
 
 abbrev Inv-loop : tie.InvT-loop
 Inv-loop body from count rest₀ at₀ left₀ rest at left =
-    (at ≤ length body) × (left ≡ length (digitsAt body at)) × (orderTen (digitsAt body at) (valueOf rest) (2 ^ 64) ≡ orderTen (digitsAt body from) (valueOf rest₀) (2 ^ 64))
+    (at ≤ length body) × (left ≡ length (digitsAt body at))
+    × (orderTen (digitsAt body at) (valueOf rest) (2 ^ 64) ≡ orderTen (digitsAt body from) (valueOf rest₀) (2 ^ 64))
 
 abbrev μ-loop : tie.MeasureT-loop
 μ-loop body from count rest₀ at₀ left₀ rest at left = left

@@ -13,8 +13,10 @@ lead-requires c κs = search needs
 
 first-raw-requires : tie.Need-first-raw-requires
 first-raw-requires c κs =
-    let s = c .before .before in
-    (subst (λ (n : ℕ). n < 10 ^ 27) (sym (c .lead .ensures)) (lead-fits (s .args .zeros) (digitsAt (s .args .body .now) (s .args .from)) (s .pre .2)), s .pre .3)
+    let s = c .before .before in (
+      subst (λ (n : ℕ). n < 10 ^ 27) (sym (c .lead .ensures)) (lead-fits (s .args .zeros) (digitsAt (s .args .body .now) (s .args .from)) (s .pre .2)),
+      s .pre .3,
+    )
 
 returns : tie.Need-returns
 returns c =

@@ -20,7 +20,8 @@ returns : tie.Need-returns
 returns c =
     let a = c .before .before .before .args in
     let d = c .div in
-    first-down-words (a .frac) (valueOf (a .val)) (omega arith) (omega arith) _ _ _ (d .result .quotient .low) (d .ensures .quotient) refl (omega arith) (c .before .shr .ensures)
+    first-down-words (a .frac) (valueOf (a .val)) (omega arith) (omega arith) _ _ _ (d .result .quotient .low) (d .ensures .quotient) refl (omega arith)
+    (c .before .shr .ensures)
 
 shl-requires : tie.Need-shl-requires
 shl-requires c κs = search needs
@@ -32,7 +33,8 @@ returns-2 : tie.Need-returns-2
 returns-2 c =
     let a = c .before .before .before .args in
     let d = c .div2 in
-    first-up-words (a .frac) (valueOf (a .val)) (omega arith) (omega arith) _ _ _ (d .result .quotient .low) (d .ensures .quotient) refl (omega arith) (c .before .shl .ensures)
+    first-up-words (a .frac) (valueOf (a .val)) (omega arith) (omega arith) _ _ _ (d .result .quotient .low) (d .ensures .quotient) refl (omega arith)
+    (c .before .shl .ensures)
 
 pub first-raw-spec : {M : Type 1} → statement M
 first-raw-spec =

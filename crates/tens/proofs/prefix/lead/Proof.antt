@@ -27,12 +27,14 @@ mul-requires c κs = search needs
 add-requires : tie.Need-add-requires
 add-requires c κs =
     let s = c .before .before .before .before in
-    group-sum (s .args .body .now) (s .args .from) (s .args .zeros) (s .pre .1) (c .before .before .take .ensures) (c .before .take2 .ensures) (c .mul .ensures) (s .pre .2)
+    group-sum (s .args .body .now) (s .args .from) (s .args .zeros) (s .pre .1) (c .before .before .take .ensures) (c .before .take2 .ensures) (c .mul .ensures)
+    (s .pre .2)
 
 returns : tie.Need-returns
 returns c =
     let s = c .before .before .before .before .before in
-    c .add .ensures ∙ group-two (s .args .body .now) (s .args .from) (s .args .zeros) (s .pre .1) (c .before .before .before .take .ensures) (c .before .before .take2 .ensures) (c .before .mul .ensures)
+    c .add .ensures ∙ group-two (s .args .body .now) (s .args .from) (s .args .zeros) (s .pre .1) (c .before .before .before .take .ensures)
+    (c .before .before .take2 .ensures) (c .before .mul .ensures)
 
 pub lead-spec : {M : Type 1} → statement M
 lead-spec =

@@ -12,7 +12,8 @@ use Rattle.tens.proofs.prefix.take.Tie as tie
 
 abbrev Inv-loop : tie.InvT-loop
 Inv-loop body from count value₀ at₀ k₀ value at k =
-    (k ≤ count) × (at ≤ length body) × (leadFrom (count - k) (digitsAt body at) value ≡ leadOf count (digitsAt body from)) × (digitsAt body at ≡ drop k (digitsAt body from))
+    (k ≤ count) × (at ≤ length body) × (leadFrom (count - k) (digitsAt body at) value ≡ leadOf count (digitsAt body from))
+    × (digitsAt body at ≡ drop k (digitsAt body from))
 
 abbrev μ-loop : tie.MeasureT-loop
 μ-loop body from count value₀ at₀ k₀ value at k = count - k
@@ -27,13 +28,21 @@ mul-value : tie.Need-mul-value Inv-loop μ-loop
 mul-value c =
     let l = c .before .before .loop in
     let s = c .before .before .before .before in
-    omega (arith, group-fits (s .args .body .now) (s .args .from) (s .args .count) (l .k) (l .at) (l .value) (c .next-digit .ensures) (omega arith) (omega arith) (s .pre .2) (l .inv .2))
+    omega (
+      arith,
+      group-fits (s .args .body .now) (s .args .from) (s .args .count) (l .k) (l .at) (l .value) (c .next-digit .ensures) (omega arith)
+          (omega arith) (s .pre .2) (l .inv .2),
+    )
 
 add-value : tie.Need-add-value Inv-loop μ-loop
 add-value c =
     let l = c .before .before .before .loop in
     let s = c .before .before .before .before .before in
-    omega (arith, group-fits (s .args .body .now) (s .args .from) (s .args .count) (l .k) (l .at) (l .value) (c .before .next-digit .ensures) (omega arith) (omega arith) (s .pre .2) (l .inv .2))
+    omega (
+      arith,
+      group-fits (s .args .body .now) (s .args .from) (s .args .count) (l .k) (l .at) (l .value) (c .before .next-digit .ensures) (omega arith)
+          (omega arith) (s .pre .2) (l .inv .2),
+    )
 
 add-k : tie.Need-add-k Inv-loop μ-loop
 add-k c = search needs

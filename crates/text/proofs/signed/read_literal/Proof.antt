@@ -27,7 +27,8 @@ returns : tie.Need-returns
 returns c =
     let a = c .before .before .before .before .before .args in
     c .answered .ensures
-    ∙ ap signedAnswer (literal-reads signed (a .width) (a .frac) (a .text .now) (c .before .before .before .literal .ensures) (c .before .before .if1 .taken) (c .before .literal2 .ensures))
+    ∙ ap signedAnswer (literal-reads signed (a .width) (a .frac) (a .text .now) (c .before .before .before .literal .ensures) (c .before .before .if1 .taken)
+    (c .before .literal2 .ensures))
 
 returns-2 : tie.Need-returns-2
 returns-2 c =

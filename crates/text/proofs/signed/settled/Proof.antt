@@ -18,7 +18,8 @@ fit-requires c κs = search needs
 returns : tie.Need-returns
 returns c =
     let a = c .before .before .before .before .args in
-    c .fit .ensures ∙ ap signedAnswer (settled-number (a .manner) signed (a .width) (a .frac) (a .radix) (a .text .now) (a .p) (c .before .before .before .before .pre .0) (c .before .before .magnitude .ensures) (c .before .high .ensures))
+    c .fit .ensures ∙ ap signedAnswer (settled-number (a .manner) signed (a .width) (a .frac) (a .radix) (a .text .now) (a .p)
+    (c .before .before .before .before .pre .0) (c .before .before .magnitude .ensures) (c .before .high .ensures))
 
 pub settled-spec : {M : Type 1} → statement M
 settled-spec = tie.close (tie.spec magnitude-requires high-requires fit-requires returns)

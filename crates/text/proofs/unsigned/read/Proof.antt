@@ -29,7 +29,8 @@ returns : tie.Need-returns
 returns c =
     let a = c .before .before .before .before .before .args in
     c .answered .ensures
-    ∙ ap unsignedAnswer (plain-reads unsigned (a .width) (a .frac) (a .text .now) (a .radix) (c .before .before .before .plain .ensures) (a .manner) (c .before .plain2 .result) (c .before .before .if1 .taken) (c .before .plain2 .ensures))
+    ∙ ap unsignedAnswer (plain-reads unsigned (a .width) (a .frac) (a .text .now) (a .radix) (c .before .before .before .plain .ensures) (a .manner)
+    (c .before .plain2 .result) (c .before .before .if1 .taken) (c .before .plain2 .ensures))
 
 returns-2 : tie.Need-returns-2
 returns-2 c =

@@ -28,7 +28,9 @@ returns : tie.Need-returns
 returns c =
     let w = c .before .before .before .before .before .args .width in
     let f = c .before .before .before .before .before .args .frac in
-    one-signed (intPart w f) w f _ (c .before .before .before .before .check .ensures) (c .before .before .before .if1 .taken) (c .before .before .of-signed .ensures ∙ toZ-ofZ {w = w64} (c .before .before .before .before .before .fits .a)) (c .before .int .ensures) (c .fit .ensures)
+    one-signed (intPart w f) w f _ (c .before .before .before .before .check .ensures) (c .before .before .before .if1 .taken)
+    (c .before .before .of-signed .ensures ∙ toZ-ofZ {w = w64} (c .before .before .before .before .before .fits .a)) (c .before .int .ensures)
+    (c .fit .ensures)
 
 returns-2 : tie.Need-returns-2
 returns-2 c = fault-signed _ _ (c .before .check .ensures) (c .if1 .left)

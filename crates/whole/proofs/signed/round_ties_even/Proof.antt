@@ -27,7 +27,9 @@ fit-requires c κs = checked _ _ (c .before .before .before .check .ensures) (c 
 returns : tie.Need-returns
 returns c =
     let f = c .before .before .before .before .before .args .frac in
-    one-signed (λ (z : ℤ). evenTo z (2 ^ f)) _ f _ (c .before .before .before .before .check .ensures) (c .before .before .before .if1 .taken) (c .before .before .of-signed .ensures ∙ toZ-ofZ {w = w64} (c .before .before .before .before .before .fits .a)) (c .before .round-ties-even .ensures) (c .fit .ensures)
+    one-signed (λ (z : ℤ). evenTo z (2 ^ f)) _ f _ (c .before .before .before .before .check .ensures) (c .before .before .before .if1 .taken)
+    (c .before .before .of-signed .ensures ∙ toZ-ofZ {w = w64} (c .before .before .before .before .before .fits .a)) (c .before .round-ties-even .ensures)
+    (c .fit .ensures)
 
 returns-2 : tie.Need-returns-2
 returns-2 c = fault-signed _ _ (c .before .check .ensures) (c .if1 .left)

@@ -25,7 +25,8 @@ returns : tie.Need-returns
 returns c =
     let w = c .before .before .before .before .before .args .width in
     let f = c .before .before .before .before .before .args .frac in
-    one-unsigned (fracPart w f) w f _ (c .before .before .before .before .check .ensures) (c .before .before .before .if1 .taken) (c .before .before .of-unsigned .ensures) (c .before .frac .ensures) (c .fit .ensures)
+    one-unsigned (fracPart w f) w f _ (c .before .before .before .before .check .ensures) (c .before .before .before .if1 .taken)
+    (c .before .before .of-unsigned .ensures) (c .before .frac .ensures) (c .fit .ensures)
 
 returns-2 : tie.Need-returns-2
 returns-2 c = fault-unsigned _ _ (c .before .check .ensures) (c .if1 .left)

@@ -24,7 +24,8 @@ fit-requires c κs = checked _ _ (c .before .before .before .check .ensures) (c 
 returns : tie.Need-returns
 returns c =
     let f = c .before .before .before .before .before .args .frac in
-    one-unsigned (λ (z : ℤ). roundTo z (2 ^ f)) _ f _ (c .before .before .before .before .check .ensures) (c .before .before .before .if1 .taken) (c .before .before .of-unsigned .ensures) (c .before .round .ensures) (c .fit .ensures)
+    one-unsigned (λ (z : ℤ). roundTo z (2 ^ f)) _ f _ (c .before .before .before .before .check .ensures) (c .before .before .before .if1 .taken)
+    (c .before .before .of-unsigned .ensures) (c .before .round .ensures) (c .fit .ensures)
 
 returns-2 : tie.Need-returns-2
 returns-2 c = fault-unsigned _ _ (c .before .check .ensures) (c .if1 .left)

@@ -11,7 +11,8 @@ use Rattle.wide.proofs.divide.words.Tie as tie
 norm : (c : tie.Start) → Normal (c .args .d) (leadingZeros 64 (c .args .d))
 norm c = normal (c .args .d) (omega arith) (c .fits .d .fits)
 
-shifted : (c : tie.After-shl) → Shifted (c .before .before .args .high) (c .before .before .args .low) (c .before .before .args .d) (leadingZeros 64 (c .before .before .args .d)) (c .before .shl-word .result) (c .shl .result)
+shifted : (c : tie.After-shl) → Shifted (c .before .before .args .high) (c .before .before .args .low) (c .before .before .args .d)
+    (leadingZeros 64 (c .before .before .args .d)) (c .before .shl-word .result) (c .shl .result)
 shifted c = record {
   below = c .before .before .pre;
   fits = c .before .before .fits .low .fits;
@@ -20,7 +21,8 @@ shifted c = record {
   value = c .shl .ensures;
 }
 
-first : (c : tie.After-digit) → First (c .before .before .shl .result) (c .before .before .before .shl-word .result) (bitAnd (c .before .before .shl .result .low) 0xffff_ffff) (c .digit .result)
+first : (c : tie.After-digit) → First (c .before .before .shl .result) (c .before .before .before .shl-word .result)
+    (bitAnd (c .before .before .shl .result .low) 0xffff_ffff) (c .digit .result)
 first c = record { fits = c .before .struct-known .given .1 .0 .fits; half = and-mask (c .before .before .shl .result .low) 32; is = c .digit .ensures }
 
 -- each digit is below 2 ^ 32
