@@ -28,7 +28,8 @@ store-requires c κs =
     let checked = c .before .before .before .before in
     let call = checked .before .before in
     let a = call .before .before .before .before .args in
-    let k = checked-done _ _ _ (a .file .now) (a .lines .now) (a .raws .now) (a .answers .now) (a .taps .now) (call .check .ensures) (checked .checked .given .1) in
+    let k = checked-done _ _ _ (a .file .now) (a .lines .now) (a .raws .now) (a .answers .now) (a .taps .now) (call .check .ensures)
+    (checked .checked .given .1) in
     (k .room .short, (k .room .lines-room, (k .room .raws-room, k .room .answers-room)))
 
 judge-requires : tie.Need-judge-requires
@@ -37,7 +38,8 @@ judge-requires c κs =
     let checked = stored .before .before .before .before .before in
     let call = checked .before .before in
     let a = call .before .before .before .before .args in
-    let k = checked-done _ _ _ (a .file .now) (a .lines .now) (a .raws .now) (a .answers .now) (a .taps .now) (call .check .ensures) (checked .checked .given .1) in
+    let k = checked-done _ _ _ (a .file .now) (a .lines .now) (a .raws .now) (a .answers .now) (a .taps .now) (call .check .ensures)
+    (checked .checked .given .1) in
     let st = stored .store .ensures in
     let vs = valuesOf (a .file .now) in (
       omega (arith, k .count, ap length (st .lines-are), over-long lineNumber vs (a .lines .now)),
@@ -63,7 +65,8 @@ returns-2 c =
     let checked = stored .before .before .before .before .before in
     let call = checked .before .before in
     let a = call .before .before .before .before .args in
-    let k = checked-done _ _ _ (a .file .now) (a .lines .now) (a .raws .now) (a .answers .now) (a .taps .now) (call .check .ensures) (checked .checked .given .1) in
+    let k = checked-done _ _ _ (a .file .now) (a .lines .now) (a .raws .now) (a .answers .now) (a .taps .now) (call .check .ensures)
+    (checked .checked .given .1) in
     refused-line _ _ _ (a .file .now) (a .lines .now) (a .raws .now) (a .answers .now) (a .taps .now) k (stored .store .ensures)
     (c .before .judge .ensures) (not-done (c .before .judge .result) (c .match2 .keys2))
 
@@ -75,10 +78,12 @@ keep-requires c κs =
     let checked = stored .before .before .before .before .before in
     let call = checked .before .before in
     let a = call .before .before .before .before .args in
-    let k = checked-done _ _ _ (a .file .now) (a .lines .now) (a .raws .now) (a .answers .now) (a .taps .now) (call .check .ensures) (checked .checked .given .1) in
+    let k = checked-done _ _ _ (a .file .now) (a .lines .now) (a .raws .now) (a .answers .now) (a .taps .now) (call .check .ensures)
+    (checked .checked .given .1) in
     let st = stored .store .ensures in
     let vs = valuesOf (a .file .now) in
-    let same = done-count _ _ _ (a .file .now) (a .lines .now) (a .raws .now) (a .answers .now) (a .taps .now) k st (judging .judge .ensures) (judged .judged .given .1) in
+    let same = done-count _ _ _ (a .file .now) (a .lines .now) (a .raws .now) (a .answers .now) (a .taps .now) k st (judging .judge .ensures)
+    (judged .judged .given .1) in
     (omega (arith, same, ap length (st .raws-are), over-long rawAt vs (a .raws .now)), omega (arith, same, k .room .taps-room))
 
 same-length-4 : tie.Need-same-length-4
@@ -102,7 +107,8 @@ returns-3 c =
     let checked = stored .before .before .before .before .before in
     let call = checked .before .before in
     let a = call .before .before .before .before .args in
-    let k = checked-done _ _ _ (a .file .now) (a .lines .now) (a .raws .now) (a .answers .now) (a .taps .now) (call .check .ensures) (checked .checked .given .1) in
+    let k = checked-done _ _ _ (a .file .now) (a .lines .now) (a .raws .now) (a .answers .now) (a .taps .now) (call .check .ensures)
+    (checked .checked .given .1) in
     all-done _ _ _ (a .file .now) (a .lines .now) (a .raws .now) (a .answers .now) (a .taps .now) k (stored .store .ensures)
     (judging .judge .ensures) (judged .judged .given .1) (c .before .keep .ensures)
 
