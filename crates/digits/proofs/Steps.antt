@@ -1,15 +1,41 @@
--- From what a function's callees ensure to the meaning of its own answer: one law for each return. Assumes nothing.
-use mathlib.Core.Path.{_≡_, sym, ap, _∙_}
-use mathlib.Core.List.{List, reverse}
-use Prim.Native.Nat.{ℕ, _-_, _≤_, _<_}
+-- From what a function's callees ensure to the meaning of its own answer: one law for each return. Places go by one
+-- law: a part of a part is a part of the run, after what stands before both (`part-in`). Assumes nothing.
+use mathlib.Core.Path.{_≡_, sym, ap, subst, _∙_}
+use mathlib.Core.List.{List, _++_, reverse, append-nil}
+use Prim.Native.Nat.{ℕ, _+_, _-_, _≤_, _<_}
 use native.Mathlib.Omega.{arith}
-use lib.ListN.{length, take, drop, getD, drop-of-length-le}
+use lib.ListN.{length, take, drop, getD, length-append, drop-of-length-le}
+use denote.Ref.{ptr, now}
 use Rattle.digits.specs.declared.Digit.{Digit}
 use Rattle.digits.specs.declared.Digit.the-variants.{Is, Nothing}
-use Rattle.digits.specs.Meaning.{isUnd, digitsOf, takeWhile, dropBack, trimmed, headOf, uptoOf, fromOf, firstOf, lastOf}
+use Rattle.digits.specs.Meaning.{isUnd, digitsOf, takeWhile, dropBack, trimmed, undsFront, headOf, tailOf}
+use Rattle.digits.specs.Meaning.{uptoOf, fromOf, firstOf, lastOf, Part, headPart, restPart, Slice, after, PartAt}
+use Rattle.digits.specs.Promise.{New, Upto, From}
 use Rattle.digits.proofs.Turns.{turn, turn-back, start-back}
-use Rattle.digits.specs.Runs.{drop-while, take-back, back-length, take-head, drop-head}
+use Rattle.digits.specs.Runs.{drop-while, take-while, take-back, back-length, take-head, drop-head}
 use Rattle.digits.specs.Theorems.{view-first, view-last}
+
+-- ---- the place n bytes after p: by another name of n, by no bytes, and m bytes further
+pub after-as : (p : ℕ × ℕ) {m n : ℕ} → m ≡ n → after m p ≡ after n p
+after-as p e = ap (λ (k : ℕ). after k p) e
+
+pub after-none : (p : ℕ × ℕ) → p ≡ after 0 p
+after-none p = ap (λ (k : ℕ). (p .0, k)) (omega arith)
+
+after-both : (m n : ℕ) (p : ℕ × ℕ) → after m (after n p) ≡ after (n + m) p
+after-both m n p = ap (λ (k : ℕ). (p .0, k)) (omega arith)
+
+-- the part q of a slice that is the part p of the run is the part w of the run, which stands after what is before both
+pub part-in : {run s r : Slice} {p q w : Part} → PartAt run p s → PartAt s q r → p .before ++ q .before ≡ w .before
+    → q .view ≡ w .view → PartAt run w r
+part-in {run} {s} {r} {p} {q} e f b v =
+    record {
+      bytes = f .bytes ∙ v;
+      place =
+          f .place ∙ ap (after (length (q .before))) (e .place)
+          ∙ after-both (length (q .before)) (length (p .before)) (ptr run)
+          ∙ after-as (ptr run) (sym (length-append (p .before) (q .before)) ∙ ap length b);
+    }
 
 -- the byte at an end
 pub first-some : (t : List ℕ) → 0 < length t → Is (getD t 0 0) ≡ firstOf t
@@ -29,25 +55,40 @@ unfolding firstOf lastOf
 last-none t h = sym (ap (λ (l : List ℕ). firstOf (reverse l)) (drop-of-length-le t {i = 0} h))
 
 -- trimming: f `_` in front, and b behind what is left
-module _ (t : List ℕ) {rest : List ℕ} {f b : ℕ} (ef : f ≡ length (takeWhile isUnd t)) (er : rest ≡ drop f t) (eb : b ≡ length (takeWhile isUnd (reverse rest))) where
-  pub trim-within : b ≤ length rest
-  trim-within = omega (arith, back-length isUnd rest)
+module _ {run rest : Slice} {f b : ℕ} (ef : f ≡ length (takeWhile isUnd (now run)))
+    (er : PartAt run (restPart (now run) f) rest) (eb : b ≡ length (takeWhile isUnd (reverse (now rest)))) where
+  pub trim-within : b ≤ length (now rest)
+  trim-within = omega (arith, back-length isUnd (now rest))
 
-  pub trim-is : {r : List ℕ} → r ≡ take (length rest - b) rest → r ≡ trimmed t
-  unfolding trimmed
+  pub trim-is : {r : Slice} → PartAt rest (headPart (now rest) (length (now rest) - b)) r → New run r
+  unfolding trimmed undsFront
   trim-is e =
-      e ∙ take-back isUnd rest (length rest - b) (omega (arith, back-length isUnd rest))
-      ∙ ap (dropBack isUnd) (er ∙ ap (λ (n : ℕ). drop n t) ef ∙ drop-while isUnd t)
+      part-in er e
+      (append-nil (take f (now run)) ∙ ap (λ (n : ℕ). take n (now run)) ef ∙ take-while isUnd (now run))
+      (take-back isUnd (now rest) (length (now rest) - b) (omega (arith, back-length isUnd (now rest)))
+      ∙ ap (dropBack isUnd) (er .bytes ∙ ap (λ (n : ℕ). drop n (now run)) ef ∙ drop-while isUnd (now run)))
 
 -- a split at the byte p
-module _ (t : List ℕ) (n : ℕ) {p : ℕ} (e : p ≡ length (headOf t n)) where
-  pub upto-is : {h r : List ℕ} → h ≡ take p t → r ≡ trimmed h → r ≡ uptoOf t n
+module _ {run h r : Slice} {p : ℕ} (n : ℕ) (e : p ≡ length (headOf (now run) n)) where
+  pub upto-is : PartAt run (headPart (now run) p) h → New h r → Upto run n r
   unfolding uptoOf
-  upto-is eh er = er ∙ ap trimmed (eh ∙ ap (λ (k : ℕ). take k t) e ∙ take-head t n)
+  upto-is eh er =
+      let q : now h ≡ headOf (now run) n = eh .bytes ∙ ap (λ (k : ℕ). take k (now run)) e ∙ take-head (now run) n in
+      part-in eh er (ap undsFront q) (ap trimmed q)
 
-  pub from-is : {h r : List ℕ} → h ≡ drop p t → r ≡ trimmed h → r ≡ fromOf t n
+  pub from-is : PartAt run (restPart (now run) p) h → New h r → From run n r
   unfolding fromOf
-  from-is eh er = er ∙ ap trimmed (eh ∙ ap (λ (k : ℕ). drop k t) e ∙ drop-head t n)
+  from-is eh er =
+      let q : now h ≡ tailOf (now run) n = eh .bytes ∙ ap (λ (k : ℕ). drop k (now run)) e ∙ drop-head (now run) n in
+      let b : take p (now run) ≡ headOf (now run) n = ap (λ (k : ℕ). take k (now run)) e ∙ take-head (now run) n in
+      part-in eh er (rw (q, b)) (ap trimmed q)
+
+-- the same split by another name of its count
+pub upto-at : {run r : Slice} {m n : ℕ} → m ≡ n → Upto run m r → Upto run n r
+upto-at {run} {r} q e = subst (λ (k : ℕ). Upto run k r) q e
+
+pub from-at : {run r : Slice} {m n : ℕ} → m ≡ n → From run m r → From run n r
+from-at {run} {r} q e = subst (λ (k : ℕ). From run k r) q e
 
 -- the digit at an end of the view v
 pub first-is : (t : List ℕ) {v : List ℕ} {r : Digit} → v ≡ trimmed t → r ≡ firstOf v → r ≡ firstOf (digitsOf t)

@@ -1,10 +1,10 @@
--- Laws of runs: their digits, what a rule takes and leaves, and the two parts at a digit count. Assumes nothing.
+-- Laws of runs: their digits, what a rule takes and leaves, and the parts at a byte or a digit count. Assumes nothing.
 use mathlib.Core.Path.{_≡_, refl, sym, ap, _∙_}
 use mathlib.Core.Bool.{Bool, true, false, cond}
 use mathlib.Core.List.{List, [], _∷_, _++_, reverse, reverse-append, reverse-reverse, reverse-cons, append-nil}
 use Prim.Native.Nat.{ℕ, zero, suc, _+_, _-_, _≤_}
 use native.Mathlib.Omega.{arith}
-use lib.ListN.{length, take, drop, length-append, length-drop, length-reverse, replicate}
+use lib.ListN.{length, take, drop, length-append, length-drop, length-reverse, replicate, drop-of-length-le}
 use lib.Seq.{take-all, drop-append-seam, take-append-seam}
 use lib.Dec.{eqb}
 use Rattle.digits.specs.Meaning.{isUnd, digitsOf, takeWhile, dropWhile, takeBack, dropBack, headOf, tailOf}
@@ -57,15 +57,39 @@ pub drop-while : (p : ℕ → Bool) (t : List ℕ) → drop (length (takeWhile p
 drop-while p t =
     ap (λ (l : List ℕ). drop (length (takeWhile p t)) l) (sym (while-whole p t)) ∙ drop-append-seam (takeWhile p t) (dropWhile p t)
 
+pub take-while : (p : ℕ → Bool) (t : List ℕ) → take (length (takeWhile p t)) t ≡ takeWhile p t
+take-while p t =
+    ap (take (length (takeWhile p t))) (sym (while-whole p t)) ∙ take-append-seam (takeWhile p t) (dropWhile p t)
+
 pub take-back : (p : ℕ → Bool) (t : List ℕ) (n : ℕ) → n + length (takeWhile p (reverse t)) ≡ length t → take n t ≡ dropBack p t
 take-back p t n h =
     let k : n ≡ length (dropBack p t) = omega (arith, back-length p t) in
     ap (λ (l : List ℕ). take n l) (sym (back-whole p t)) ∙ ap (λ (m : ℕ). take m (dropBack p t ++ takeBack p t)) k
     ∙ take-append-seam (dropBack p t) (takeBack p t)
 
+-- ---- what a rule takes that holds of one byte only
+pub all-are : (p : ℕ → Bool) (x : ℕ) → ((b : ℕ) → p b ≡ true → b ≡ x) → (t : List ℕ)
+    → takeWhile p t ≡ replicate (length (takeWhile p t)) x
+unfolding takeWhile
+all-are p x h [] = refl
+all-are p x h (b ∷ t) = go (p b) refl (all-are p x h t)
+  where
+    go : (u : Bool) → p b ≡ u → takeWhile p t ≡ replicate (length (takeWhile p t)) x
+        → cond u (b ∷ takeWhile p t) [] ≡ replicate (length (cond u (b ∷ takeWhile p t) [])) x
+    go true q e = rw (h b q) (ap (λ (l : List ℕ). x ∷ l) e)
+    go false q e = refl
+
+-- ---- what stands between two parts of a run
+pub middle : (f v w : List ℕ) → take (length v) (drop (length f) (f ++ (v ++ w))) ≡ v
+middle f v w = ap (take (length v)) (drop-append-seam f (v ++ w)) ∙ take-append-seam v w
+
 -- ---- a part of a run, up to its end
 pub rest-part : (t : List ℕ) (n : ℕ) → take (length t - n) (drop n t) ≡ drop n t
 rest-part t n = take-all (length t - n) (drop n t) (simp length-drop (omega arith))
+
+-- two runs of no bytes
+pub empty-both : (s t : List ℕ) → length s ≤ 0 → length t ≤ 0 → s ≡ t
+empty-both s t h k = drop-of-length-le s {i = 0} h ∙ sym (drop-of-length-le t {i = 0} k)
 
 -- ---- the two parts at a digit count make up the run
 pub parts-whole : (t : List ℕ) (n : ℕ) → headOf t n ++ tailOf t n ≡ t

@@ -1,5 +1,6 @@
--- What is proved of the meaning of a view: it stands for the digits of its run, what is dropped and the view make up the run, the parts of a split
--- make up the digits, and every part is a view again. Assumes nothing.
+-- What is proved of the meaning of a view: it stands for the digits of its run; what stands before it, the view and
+-- what stands behind it make up the run, so its place is where its bytes are; the parts of a split make up the digits;
+-- and every part is a view again. Assumes nothing.
 use mathlib.Core.Path.{_≡_, refl, sym, ap, subst, _∙_}
 use mathlib.Core.Bool.{Bool, true, false, cond}
 use mathlib.Core.List.{List, [], _∷_, _++_, reverse, reverse-cons, reverse-append, reverse-reverse, append-assoc, append-nil}
@@ -7,12 +8,15 @@ use Prim.Native.Nat.{ℕ, zero, suc, _-_, _≤_}
 use native.Mathlib.Omega.{arith}
 use lib.ListN.{length, take, drop, replicate, length-drop, length-reverse, take-append-drop}
 use lib.Seq.{take-nil, drop-nil, take-at}
-use lib.Dec.{eqb}
 use borrow.Author.Tests.{eqb-true, ne-eqb}
 use Rattle.digits.specs.declared.Digit.{Digit}
 use Rattle.digits.specs.declared.Digit.the-variants.{Is, Nothing}
-use Rattle.digits.specs.Meaning.{isUnd, isZero, digitsOf, takeWhile, dropWhile, takeBack, dropBack, trimmed, undsFront, undsBack, StartsWithNo, IsView, headOf, tailOf, uptoOf, fromOf, firstOf, lastOf, leadingZeros, trailingZeros}
-use Rattle.digits.specs.Runs.{digits-reverse, while-whole, back-whole, back-length, drop-while, take-back, parts-whole, replicate-reverse, while-length}
+use Rattle.digits.specs.Meaning.{isUnd, isZero, digitsOf, takeWhile, dropWhile, takeBack, dropBack, trimmed}
+use Rattle.digits.specs.Meaning.{undsFront, undsBack, StartsWithNo, IsView, headOf, tailOf, uptoOf, fromOf}
+use Rattle.digits.specs.Meaning.{Part, whole, headPart, restPart, newPart, uptoPart, fromPart}
+use Rattle.digits.specs.Meaning.{firstOf, lastOf, leadingZeros, trailingZeros}
+use Rattle.digits.specs.Runs.{digits-reverse, while-whole, while-length, back-whole, back-length, drop-while}
+use Rattle.digits.specs.Runs.{take-back, all-are, middle, parts-whole, replicate-reverse}
 
 -- ---- the digits of a view are those of its run
 pub front-digits : (t : List ℕ) → digitsOf (dropWhile isUnd t) ≡ digitsOf t
@@ -35,11 +39,61 @@ unfolding trimmed
 trimmed-digits t = back-digits (dropWhile isUnd t) ∙ front-digits t
 
 -- ---- "Dropped bytes in front, view, and dropped bytes behind make up the whole run again"
-pub trimmed-whole : (t : List ℕ) → undsFront t ++ (trimmed t ++ undsBack t) ≡ t
+pub new-whole : (t : List ℕ) → whole (newPart t) ≡ t
 unfolding trimmed undsFront undsBack
-trimmed-whole t = ap (λ (l : List ℕ). takeWhile isUnd t ++ l) (back-whole isUnd (dropWhile isUnd t)) ∙ while-whole isUnd t
+new-whole t = ap (λ (l : List ℕ). takeWhile isUnd t ++ l) (back-whole isUnd (dropWhile isUnd t)) ∙ while-whole isUnd t
 
--- and what is dropped has no digits
+pub upto-whole : (t : List ℕ) (n : ℕ) → whole (uptoPart t n) ≡ t
+unfolding uptoOf
+upto-whole t n =
+    let w : whole (newPart (headOf t n)) ++ tailOf t n ≡ t = rw (new-whole (headOf t n)) (parts-whole t n) in
+    simp append-assoc at w
+
+pub from-whole : (t : List ℕ) (n : ℕ) → whole (fromPart t n) ≡ t
+unfolding fromOf
+from-whole t n =
+    append-assoc (headOf t n) (undsFront (tailOf t n)) (trimmed (tailOf t n) ++ undsBack (tailOf t n))
+    ∙ ap (λ (l : List ℕ). headOf t n ++ l) (new-whole (tailOf t n)) ∙ parts-whole t n
+
+pub head-whole : (t : List ℕ) (n : ℕ) → whole (headPart t n) ≡ t
+head-whole t n = take-append-drop n t
+
+pub rest-whole : (t : List ℕ) (n : ℕ) → whole (restPart t n) ≡ t
+rest-whole t n = rw append-nil (take-append-drop n t)
+
+-- so the bytes at the place of a view are the view
+pub part-stands : (t : List ℕ) (p : Part) → whole p ≡ t
+    → take (length (p .view)) (drop (length (p .before)) t) ≡ p .view
+part-stands t p w = rw (← w) (middle (p .before) (p .view) (p .behind))
+
+pub new-stands : (t : List ℕ) → take (length (trimmed t)) (drop (length (undsFront t)) t) ≡ trimmed t
+new-stands t = part-stands t (newPart t) (new-whole t)
+
+pub upto-stands : (t : List ℕ) (n : ℕ)
+    → take (length (uptoOf t n)) (drop (length (undsFront (headOf t n))) t) ≡ uptoOf t n
+upto-stands t n = part-stands t (uptoPart t n) (upto-whole t n)
+
+pub from-stands : (t : List ℕ) (n : ℕ)
+    → take (length (fromOf t n)) (drop (length (headOf t n ++ undsFront (tailOf t n))) t) ≡ fromOf t n
+from-stands t n = part-stands t (fromPart t n) (from-whole t n)
+
+-- what `new` drops are `_`
+unds-are : (t : List ℕ) → takeWhile isUnd t ≡ replicate (length (takeWhile isUnd t)) 95
+unfolding isUnd
+unds-are t = all-are isUnd 95 (λ b q. eqb-true b 95 q) t
+
+pub front-unds : (t : List ℕ) → undsFront t ≡ replicate (length (undsFront t)) 95
+unfolding undsFront
+front-unds t = unds-are t
+
+pub back-unds : (t : List ℕ) → undsBack t ≡ replicate (length (undsBack t)) 95
+unfolding undsBack takeBack
+back-unds t =
+    let r = reverse (dropWhile isUnd t) in
+    ap reverse (unds-are r) ∙ replicate-reverse (length (takeWhile isUnd r)) 95
+    ∙ ap (λ (n : ℕ). replicate n 95) (sym (length-reverse (takeWhile isUnd r)))
+
+-- and so have no digits
 pub front-no-digits : (t : List ℕ) → digitsOf (undsFront t) ≡ []
 unfolding undsFront digitsOf takeWhile
 front-no-digits [] = refl
@@ -141,7 +195,7 @@ from-view t n = trimmed-view (tailOf t n)
 pub split-whole : (t : List ℕ) (n : ℕ)
     → (undsFront (headOf t n) ++ (uptoOf t n ++ undsBack (headOf t n))) ++ (undsFront (tailOf t n) ++ (fromOf t n ++ undsBack (tailOf t n))) ≡ t
 unfolding uptoOf fromOf
-split-whole t n = rw (trimmed-whole (headOf t n), trimmed-whole (tailOf t n), parts-whole)
+split-whole t n = rw (new-whole (headOf t n), new-whole (tailOf t n), parts-whole)
 
 -- of a view, nothing is left out but the `_` between the two
 starts-none : (p : ℕ → Bool) (t : List ℕ) → StartsWithNo p t → takeWhile p t ≡ []
@@ -210,14 +264,8 @@ view-last t =
 
 -- ---- zeros: what is counted are zeros, what is left has none at that end, and the two make up the digits
 pub zeros-are : (d : List ℕ) → takeWhile isZero d ≡ replicate (leadingZeros d) 48
-unfolding takeWhile leadingZeros isZero
-zeros-are [] = refl
-zeros-are (b ∷ d) = go (isZero b) refl (zeros-are d)
-  where
-    go : (u : Bool) → eqb b 48 ≡ u → takeWhile isZero d ≡ replicate (length (takeWhile isZero d)) 48
-        → cond u (b ∷ takeWhile isZero d) [] ≡ replicate (length (cond u (b ∷ takeWhile isZero d) [])) 48
-    go true q e = rw (eqb-true b 48 q) (ap (λ (l : List ℕ). 48 ∷ l) e)
-    go false q e = refl
+unfolding leadingZeros isZero
+zeros-are d = all-are isZero 48 (λ b q. eqb-true b 48 q) d
 
 -- there are no more zeros than digits
 pub trailing-within : (d : List ℕ) → trailingZeros d ≤ length d

@@ -1,5 +1,8 @@
-// Digit views (S's `DigitsUnds`): a view is a part of the lent text with no `_` at either end. Every function takes any run, also one that is no view.
-ghost use Rattle.digits.specs.Promise.{New, Len, Upto, From, First, AfterFirst, Last, BeforeLast, LeadingZeros, WithoutLeadingZeros, TrailingZeros, WithoutTrailingZeros};
+// Digit views (S's `DigitsUnds`): a view is a part of the lent text with no `_` at either end. Every function takes any
+// run, also one that is no view.
+ghost use Rattle.digits.specs.Promise.{New, Upto, From, AfterFirst, BeforeLast};
+ghost use Rattle.digits.specs.Promise.{Len, First, Last, LeadingZeros, TrailingZeros};
+ghost use Rattle.digits.specs.Promise.{WithoutLeadingZeros, WithoutTrailingZeros};
 
 pub mod count;
 pub mod part;
@@ -12,7 +15,7 @@ pub enum Digit {
 
 // The view of a run: the run without the `_` at either end.
 pub fn new(bytes: &[u8]) -> &[u8]
-    ensures { λ r. ⌜ New (now (bytes .entry)) (now r) ⌝ }
+    ensures { λ r. ⌜ New (bytes .entry) r ⌝ }
 {
     let rest = part::rest(bytes, count::unds_front(bytes));
     part::head(rest, rest.len() - count::unds_behind(rest))
@@ -35,14 +38,14 @@ pub fn len(view: &[u8]) -> usize
 
 // The view of the first `mid` digits: all digits where there are fewer. S's `split_at`, its first view.
 pub fn upto(view: &[u8], mid: usize) -> &[u8]
-    ensures { λ r. ⌜ Upto (now (view .entry)) mid (now r) ⌝ }
+    ensures { λ r. ⌜ Upto (view .entry) mid r ⌝ }
 {
     new(part::head(view, count::place(view, mid)))
 }
 
 // The view of the digits after the first `mid`: no digits where there are fewer. S's `split_at`, its second view.
 pub fn from(view: &[u8], mid: usize) -> &[u8]
-    ensures { λ r. ⌜ From (now (view .entry)) mid (now r) ⌝ }
+    ensures { λ r. ⌜ From (view .entry) mid r ⌝ }
 {
     new(part::rest(view, count::place(view, mid)))
 }
@@ -55,7 +58,7 @@ pub fn first(view: &[u8]) -> Digit
 }
 
 pub fn after_first(view: &[u8]) -> &[u8]
-    ensures { λ r. ⌜ AfterFirst (now (view .entry)) (now r) ⌝ }
+    ensures { λ r. ⌜ AfterFirst (view .entry) r ⌝ }
 {
     from(view, 1)
 }
@@ -68,7 +71,7 @@ pub fn last(view: &[u8]) -> Digit
 }
 
 pub fn before_last(view: &[u8]) -> &[u8]
-    ensures { λ r. ⌜ BeforeLast (now (view .entry)) (now r) ⌝ }
+    ensures { λ r. ⌜ BeforeLast (view .entry) r ⌝ }
 {
     let digits = len(view);
     if digits == 0 {
@@ -115,14 +118,14 @@ pub fn trailing_zeros(view: &[u8]) -> usize
 
 // The view without the digits `0` in front.
 pub fn without_leading_zeros(view: &[u8]) -> &[u8]
-    ensures { λ r. ⌜ WithoutLeadingZeros (now (view .entry)) (now r) ⌝ }
+    ensures { λ r. ⌜ WithoutLeadingZeros (view .entry) r ⌝ }
 {
     from(view, leading_zeros(view))
 }
 
 // The view without the digits `0` behind.
 pub fn without_trailing_zeros(view: &[u8]) -> &[u8]
-    ensures { λ r. ⌜ WithoutTrailingZeros (now (view .entry)) (now r) ⌝ }
+    ensures { λ r. ⌜ WithoutTrailingZeros (view .entry) r ⌝ }
 {
     upto(view, len(view) - trailing_zeros(view))
 }

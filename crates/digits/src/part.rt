@@ -1,12 +1,11 @@
-// Parts of a run, total: past its end there is nothing.
+// Parts of a run, total: past its end there is nothing, and that stands at its end.
 ghost use mathlib.Core.Path.{_≡_};
-ghost use lib.ListN.{take, drop};
-ghost use Rattle.digits.specs.Meaning.{firstOf, lastOf};
+ghost use Rattle.digits.specs.Meaning.{headPart, restPart, PartAt, firstOf, lastOf};
 use super::Digit;
 
 // The first n bytes.
 pub fn head(run: &[u8], n: usize) -> &[u8]
-    ensures { λ r. ⌜ now r ≡ take n (now (run .entry)) ⌝ }
+    ensures { λ r. ⌜ PartAt (run .entry) (headPart (now (run .entry)) n) r ⌝ }
 {
     if n <= run.len() {
         return &run[..n];
@@ -16,12 +15,12 @@ pub fn head(run: &[u8], n: usize) -> &[u8]
 
 // The bytes after the first n.
 pub fn rest(run: &[u8], n: usize) -> &[u8]
-    ensures { λ r. ⌜ now r ≡ drop n (now (run .entry)) ⌝ }
+    ensures { λ r. ⌜ PartAt (run .entry) (restPart (now (run .entry)) n) r ⌝ }
 {
     if n <= run.len() {
         return &run[n..];
     }
-    &run[..0]
+    &run[run.len()..]
 }
 
 // The byte in front.

@@ -5,11 +5,12 @@ use Prim.Native.Nat.{ℕ, zero, suc, _+_, _-_, _≤_}
 use native.Mathlib.Nat.{sub-zero, zero-sub, suc-sub-suc}
 use native.Mathlib.Omega.{arith}
 use lib.ListN.{length, take, drop, length-take, length-drop, length-append, take-append-drop}
-use lib.Seq.{take-nil, take-take, drop-drop, take-append-seam, drop-append-seam}
+use lib.Seq.{take-nil, take-take, drop-drop}
 use Rattle.digits_exp.specs.declared.Span.{Span}
 use Rattle.digits.specs.Meaning.{isUnd, isZero, digitsOf, takeWhile, dropWhile, dropBack, trimmed, undsFront, undsBack, StartsWithNo, IsView, headOf, tailOf, leadingZeros, trailingZeros}
-use Rattle.digits.specs.Runs.{while-length, take-head, drop-head, head-length}
-use Rattle.digits.specs.Theorems.{trimmed-whole, trimmed-view, trimmed-digits, head-digits, tail-digits, leading-within, trailing-within, leading-left, trailing-left}
+use Rattle.digits.specs.Runs.{while-length, middle, take-head, drop-head, head-length}
+use Rattle.digits.specs.Theorems.{new-whole, trimmed-view, trimmed-digits, head-digits, tail-digits}
+use Rattle.digits.specs.Theorems.{leading-within, trailing-within, leading-left, trailing-left}
 use Rattle.digits_exp.specs.Meaning.{part, spanOf, IsSpan, Stands}
 use Rattle.digits_exp.specs.Inner.{emptySpan}
 
@@ -36,10 +37,6 @@ drop-take (suc k) zero l = sym (ap (λ (j : ℕ). take j (drop (suc k) l)) (zero
 drop-take (suc k) (suc m) [] = sym (take-nil (suc m - suc k))
 drop-take (suc k) (suc m) (b ∷ l) = drop-take k m l ∙ ap (λ (j : ℕ). take j (drop k l)) (sym (suc-sub-suc m k))
 
--- what lies in the middle
-middle : (f v w : List ℕ) → take (length v) (drop (length f) (f ++ (v ++ w))) ≡ v
-middle f v w = ap (take (length v)) (drop-append-seam f (v ++ w)) ∙ take-append-seam v w
-
 -- ---- the view of a part lies in the text behind the `_` in front
 trim-lies : (t u : List ℕ) (a e : ℕ) → u ≡ part t a e
     → drop a t ≡ takeWhile isUnd u ++ (trimmed u ++ (undsBack u ++ drop (e - a) (drop a t)))
@@ -49,14 +46,14 @@ trim-lies t u a e q =
     sym
     (ap (λ (l : List ℕ). takeWhile isUnd u ++ l) (sym (append-assoc (trimmed u) (undsBack u) z))
     ∙ sym (append-assoc (takeWhile isUnd u) (trimmed u ++ undsBack u) z)
-    ∙ ap (λ (l : List ℕ). l ++ z) (trimmed-whole u ∙ q) ∙ take-append-drop (e - a) (drop a t))
+    ∙ ap (λ (l : List ℕ). l ++ z) (new-whole u ∙ q) ∙ take-append-drop (e - a) (drop a t))
 
 trimmed-length : (u : List ℕ) → length (takeWhile isUnd u) + length (trimmed u) ≤ length u
 unfolding undsFront
 trimmed-length u =
     omega (
       arith,
-      ap length (trimmed-whole u),
+      ap length (new-whole u),
       length-append (takeWhile isUnd u) (trimmed u ++ undsBack u),
       length-append (trimmed u) (undsBack u),
     )

@@ -12,7 +12,7 @@ first-byte-requires : tie.Need-first-byte-requires
 first-byte-requires c κs = search needs
 
 returns : tie.Need-returns
-returns c = first-is _ (c .before .new .ensures) (c .first-byte .ensures)
+returns c = first-is _ (c .before .new .ensures .bytes) (c .first-byte .ensures)
 
 pub first-spec : {M : Type 1} → statement M
 first-spec = tie.close (tie.spec new-requires first-byte-requires returns)

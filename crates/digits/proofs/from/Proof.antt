@@ -16,7 +16,7 @@ new-requires c κs = search needs
 
 returns : tie.Need-returns
 returns c =
-    from-is _ _ (c .before .before .place .ensures) (c .before .rest .ensures) (c .new .ensures)
+    from-is _ (c .before .before .place .ensures) (c .before .rest .ensures) (c .new .ensures)
 
 pub from-spec : {M : Type 1} → statement M
 from-spec = tie.close (tie.spec place-requires rest-requires new-requires returns)

@@ -12,7 +12,7 @@ last-byte-requires : tie.Need-last-byte-requires
 last-byte-requires c κs = search needs
 
 returns : tie.Need-returns
-returns c = last-is _ (c .before .new .ensures) (c .last-byte .ensures)
+returns c = last-is _ (c .before .new .ensures .bytes) (c .last-byte .ensures)
 
 pub last-spec : {M : Type 1} → statement M
 last-spec = tie.close (tie.spec new-requires last-byte-requires returns)

@@ -16,14 +16,15 @@ unds-behind-requires c κs = search needs
 
 sub-head : tie.Need-sub-head
 sub-head c =
-    trim-within _ (c .before .before .unds-front .ensures) (c .before .rest .ensures) (c .unds-behind .ensures)
+    trim-within (c .before .before .unds-front .ensures) (c .before .rest .ensures) (c .unds-behind .ensures)
 
 head-requires : tie.Need-head-requires
 head-requires c κs = search needs
 
 returns : tie.Need-returns
 returns c =
-    trim-is _ (c .before .before .before .unds-front .ensures) (c .before .before .rest .ensures) (c .before .unds-behind .ensures) (c .head .ensures)
+    trim-is (c .before .before .before .unds-front .ensures) (c .before .before .rest .ensures)
+    (c .before .unds-behind .ensures) (c .head .ensures)
 
 pub new-spec : {M : Type 1} → statement M
 new-spec =

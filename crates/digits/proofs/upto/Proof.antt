@@ -16,7 +16,7 @@ new-requires c κs = search needs
 
 returns : tie.Need-returns
 returns c =
-    upto-is _ _ (c .before .before .place .ensures) (c .before .head .ensures) (c .new .ensures)
+    upto-is _ (c .before .before .place .ensures) (c .before .head .ensures) (c .new .ensures)
 
 pub upto-spec : {M : Type 1} → statement M
 upto-spec = tie.close (tie.spec place-requires head-requires new-requires returns)

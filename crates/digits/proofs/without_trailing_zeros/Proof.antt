@@ -1,9 +1,9 @@
 -- `digits::without_trailing_zeros` meets its promise, from those of the three calls.
 -- Assumes nothing.
 use native.Mathlib.Omega.{arith}
-use mathlib.Core.Path.{ap, _∙_}
-use Rattle.digits.specs.Meaning.{digitsOf, uptoOf}
+use Rattle.digits.specs.Meaning.{digitsOf}
 use Rattle.digits.specs.Theorems.{trailing-within}
+use Rattle.digits.proofs.Steps.{upto-at}
 use borrow.Author.Needs.{needs}
 use Rattle.digits.proofs.without_trailing_zeros.Statement.{statement}
 use Rattle.digits.proofs.without_trailing_zeros.Tie as tie
@@ -22,8 +22,7 @@ upto-requires : tie.Need-upto-requires
 upto-requires c κs = search needs
 
 returns : tie.Need-returns
-returns c =
-    c .upto .ensures ∙ ap (uptoOf (c .before .before .before .before .args .view .now)) (omega arith)
+returns c = upto-at (omega arith) (c .upto .ensures)
 
 pub without-trailing-zeros-spec : {M : Type 1} → statement M
 without-trailing-zeros-spec =

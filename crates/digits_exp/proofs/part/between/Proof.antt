@@ -9,7 +9,7 @@ head-requires : tie.Need-head-requires
 head-requires c κs = search needs
 
 returns : tie.Need-returns
-returns c = part-none _ _ _ (c .before .if1 .taken) (c .head .ensures)
+returns c = part-none _ _ _ (c .before .if1 .taken) (c .head .ensures .bytes)
 
 rest-requires : tie.Need-rest-requires
 rest-requires c κs = search needs
@@ -21,7 +21,7 @@ head-requires-2 : tie.Need-head-requires-2
 head-requires-2 c κs = search needs
 
 returns-2 : tie.Need-returns-2
-returns-2 c = part-some _ _ _ (c .before .rest .ensures) (c .head2 .ensures)
+returns-2 c = part-some _ _ _ (c .before .rest .ensures .bytes) (c .head2 .ensures .bytes)
 
 pub between-spec : {M : Type 1} → statement M
 between-spec =

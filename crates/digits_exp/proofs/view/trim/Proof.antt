@@ -22,14 +22,20 @@ new-requires c κs = search needs
 
 add-t8 : tie.Need-add-t8
 add-t8 c =
-    omega (arith, trim-end (c .before .before .before .before .args .text .now) (c .before .before .before .before .args .from) (c .before .before .before .before .args .to) (c .before .before .between .ensures) (c .before .unds-front .ensures) (c .new .ensures))
+    let a = c .before .before .before .before .args in
+    omega (
+      arith,
+      trim-end (a .text .now) (a .from) (a .to) (c .before .before .between .ensures) (c .before .unds-front .ensures)
+          (c .new .ensures .bytes),
+    )
 
 len-requires : tie.Need-len-requires
 len-requires c κs = search needs
 
 returns : tie.Need-returns
 returns c =
-    trim-stands _ _ _ (c .before .before .before .between .ensures) (c .before .before .unds-front .ensures) (c .before .new .ensures) (c .len .ensures)
+    trim-stands _ _ _ (c .before .before .before .between .ensures) (c .before .before .unds-front .ensures)
+    (c .before .new .ensures .bytes) (c .len .ensures)
 
 pub trim-spec : {M : Type 1} → statement M
 trim-spec =
