@@ -28,7 +28,7 @@ use Rattle.format.specs.Place.{fits-place}
 use Rattle.format.specs.Far.{limit-word}
 use Rattle.digits.specs.Meaning.{digitsOf}
 use Rattle.grammar.specs.Meaning.{digitOf, Written, Reading, number, unread, plainReading, num, den, rawOf, isRadix, readOf, blank}
-use Rattle.grammar.specs.Automaton.{isDigit, Part, whole, fraction, Seen, nothing, sign, digit, at, Error}
+use Rattle.grammar.specs.Automaton.{isDigit, NumberPart, whole, fraction, Seen, nothing, sign, digit, at, Error}
 use Rattle.grammar.specs.Automaton.{onSign, onPoint, step, scan, ended, finish, plainScan, readingOf}
 use Rattle.grammar.specs.Agrees.{plain-scanned}
 use Rattle.grammar.specs.Naturals.{natOf}
@@ -139,7 +139,7 @@ scan-digits p {d} {ds} h q x =
 abbrev pub written : Bool → List ℕ → List ℕ → Written
 written neg ws fs = record { neg = neg; digits = ws ++ fs; after = length fs; base = 1; down = false; exp = 0 }
 
-abbrev pub partFor : List ℕ → Part
+abbrev pub partFor : List ℕ → NumberPart
 partFor [] = whole
 partFor (d ∷ ds) = fraction
 

@@ -84,8 +84,8 @@ pub record Part : Type 0 where
   pub behind : List ℕ
 
 -- the run that it is a part of
-abbrev pub whole : Part → List ℕ
-whole p = p .before ++ (p .view ++ p .behind)
+abbrev pub wholeRun : Part → List ℕ
+wholeRun p = p .before ++ (p .view ++ p .behind)
 
 -- the first n bytes of a run, and those after them
 abbrev pub headPart : List ℕ → ℕ → Part

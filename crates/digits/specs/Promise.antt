@@ -1,17 +1,14 @@
 -- What each public function promises of its answer r, by name, and that the promise leaves nothing open: two answers
--- that meet it are equal, and two slices stand at the same place and have the same bytes. Assumes nothing.
-use mathlib.Core.Path.{_≡_, sym, _∙_}
+-- that meet it are equal, and two slices stand at the unique place and have the unique bytes. Assumes nothing.
+use mathlib.Core.Path.{_≡_}
 use mathlib.Core.List.{List}
 use Prim.Native.Nat.{ℕ, _-_}
 use lib.ListN.{length}
 use denote.Ref.{ptr, now}
+use Rattle.laws.specs.Unique.{unique}
 use Rattle.digits.specs.declared.Digit.{Digit}
 use Rattle.digits.specs.Meaning.{digitsOf, firstOf, lastOf, leadingZeros, trailingZeros}
 use Rattle.digits.specs.Meaning.{Part, newPart, uptoPart, fromPart, Slice, PartAt}
-
--- two answers that are both m
-pub same : {A : Type 0} {m r s : A} → r ≡ m → s ≡ m → r ≡ s
-same e f = e ∙ sym f
 
 -- Two slices that are both the part p. Place and length decide a slice: the logic's third field of a reference, a name
 -- under which proofs track it, is no part of the answer.
@@ -20,7 +17,7 @@ pub record SameSlice (r s : Slice) : Type 0 where
   pub bytes : now r ≡ now s
 
 pub same-part : {run : Slice} {p : Part} {r s : Slice} → PartAt run p r → PartAt run p s → SameSlice r s
-same-part e f = record { place = same (e .place) (f .place); bytes = same (e .bytes) (f .bytes) }
+same-part e f = record { place = unique (e .place) (f .place); bytes = unique (e .bytes) (f .bytes) }
 
 abbrev pub New : Slice → Slice → Type 0
 New run r = PartAt run (newPart (now run)) r
@@ -32,7 +29,7 @@ abbrev pub Len : List ℕ → ℕ → Type 0
 Len run r = r ≡ length (digitsOf run)
 
 pub len-unique : (run : List ℕ) {r s : ℕ} → Len run r → Len run s → r ≡ s
-len-unique run e f = same e f
+len-unique run e f = unique e f
 
 abbrev pub Upto : Slice → ℕ → Slice → Type 0
 Upto run mid r = PartAt run (uptoPart (now run) mid) r
@@ -50,7 +47,7 @@ abbrev pub First : List ℕ → Digit → Type 0
 First run r = r ≡ firstOf (digitsOf run)
 
 pub first-unique : (run : List ℕ) {r s : Digit} → First run r → First run s → r ≡ s
-first-unique run e f = same e f
+first-unique run e f = unique e f
 
 abbrev pub AfterFirst : Slice → Slice → Type 0
 AfterFirst run r = From run 1 r
@@ -62,7 +59,7 @@ abbrev pub Last : List ℕ → Digit → Type 0
 Last run r = r ≡ lastOf (digitsOf run)
 
 pub last-unique : (run : List ℕ) {r s : Digit} → Last run r → Last run s → r ≡ s
-last-unique run e f = same e f
+last-unique run e f = unique e f
 
 abbrev pub BeforeLast : Slice → Slice → Type 0
 BeforeLast run r = Upto run (length (digitsOf (now run)) - 1) r
@@ -74,7 +71,7 @@ abbrev pub LeadingZeros : List ℕ → ℕ → Type 0
 LeadingZeros run r = r ≡ leadingZeros (digitsOf run)
 
 pub leading-zeros-unique : (run : List ℕ) {r s : ℕ} → LeadingZeros run r → LeadingZeros run s → r ≡ s
-leading-zeros-unique run e f = same e f
+leading-zeros-unique run e f = unique e f
 
 abbrev pub WithoutLeadingZeros : Slice → Slice → Type 0
 WithoutLeadingZeros run r = From run (leadingZeros (digitsOf (now run))) r
@@ -87,7 +84,7 @@ abbrev pub TrailingZeros : List ℕ → ℕ → Type 0
 TrailingZeros run r = r ≡ trailingZeros (digitsOf run)
 
 pub trailing-zeros-unique : (run : List ℕ) {r s : ℕ} → TrailingZeros run r → TrailingZeros run s → r ≡ s
-trailing-zeros-unique run e f = same e f
+trailing-zeros-unique run e f = unique e f
 
 abbrev pub WithoutTrailingZeros : Slice → Slice → Type 0
 WithoutTrailingZeros run r = Upto run (length (digitsOf (now run)) - trailingZeros (digitsOf (now run))) r

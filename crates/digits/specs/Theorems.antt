@@ -13,7 +13,7 @@ use Rattle.digits.specs.declared.Digit.{Digit}
 use Rattle.digits.specs.declared.Digit.the-variants.{Is, Nothing}
 use Rattle.digits.specs.Meaning.{isUnd, isZero, digitsOf, takeWhile, dropWhile, takeBack, dropBack, trimmed}
 use Rattle.digits.specs.Meaning.{undsFront, undsBack, StartsWithNo, IsView, headOf, tailOf, uptoOf, fromOf}
-use Rattle.digits.specs.Meaning.{Part, whole, headPart, restPart, newPart, uptoPart, fromPart}
+use Rattle.digits.specs.Meaning.{Part, wholeRun, headPart, restPart, newPart, uptoPart, fromPart}
 use Rattle.digits.specs.Meaning.{firstOf, lastOf, leadingZeros, trailingZeros}
 use Rattle.digits.specs.Runs.{digits-reverse, while-whole, while-length, back-whole, back-length, drop-while}
 use Rattle.digits.specs.Runs.{take-back, all-are, middle, parts-whole, replicate-reverse}
@@ -38,31 +38,31 @@ pub trimmed-digits : (t : List ℕ) → digitsOf (trimmed t) ≡ digitsOf t
 unfolding trimmed
 trimmed-digits t = back-digits (dropWhile isUnd t) ∙ front-digits t
 
--- ---- "Dropped bytes in front, view, and dropped bytes behind make up the whole run again"
-pub new-whole : (t : List ℕ) → whole (newPart t) ≡ t
+-- ---- "Dropped bytes in front, view, and dropped bytes behind make up the wholeRun run again"
+pub new-whole : (t : List ℕ) → wholeRun (newPart t) ≡ t
 unfolding trimmed undsFront undsBack
 new-whole t = ap (λ (l : List ℕ). takeWhile isUnd t ++ l) (back-whole isUnd (dropWhile isUnd t)) ∙ while-whole isUnd t
 
-pub upto-whole : (t : List ℕ) (n : ℕ) → whole (uptoPart t n) ≡ t
+pub upto-whole : (t : List ℕ) (n : ℕ) → wholeRun (uptoPart t n) ≡ t
 unfolding uptoOf
 upto-whole t n =
-    let w : whole (newPart (headOf t n)) ++ tailOf t n ≡ t = rw (new-whole (headOf t n)) (parts-whole t n) in
+    let w : wholeRun (newPart (headOf t n)) ++ tailOf t n ≡ t = rw (new-whole (headOf t n)) (parts-whole t n) in
     simp append-assoc at w
 
-pub from-whole : (t : List ℕ) (n : ℕ) → whole (fromPart t n) ≡ t
+pub from-whole : (t : List ℕ) (n : ℕ) → wholeRun (fromPart t n) ≡ t
 unfolding fromOf
 from-whole t n =
     append-assoc (headOf t n) (undsFront (tailOf t n)) (trimmed (tailOf t n) ++ undsBack (tailOf t n))
     ∙ ap (λ (l : List ℕ). headOf t n ++ l) (new-whole (tailOf t n)) ∙ parts-whole t n
 
-pub head-whole : (t : List ℕ) (n : ℕ) → whole (headPart t n) ≡ t
+pub head-whole : (t : List ℕ) (n : ℕ) → wholeRun (headPart t n) ≡ t
 head-whole t n = take-append-drop n t
 
-pub rest-whole : (t : List ℕ) (n : ℕ) → whole (restPart t n) ≡ t
+pub rest-whole : (t : List ℕ) (n : ℕ) → wholeRun (restPart t n) ≡ t
 rest-whole t n = rw append-nil (take-append-drop n t)
 
 -- so the bytes at the place of a view are the view
-pub part-stands : (t : List ℕ) (p : Part) → whole p ≡ t
+pub part-stands : (t : List ℕ) (p : Part) → wholeRun p ≡ t
     → take (length (p .view)) (drop (length (p .before)) t) ≡ p .view
 part-stands t p w = rw (← w) (middle (p .before) (p .view) (p .behind))
 

@@ -7,10 +7,11 @@ use native.Mathlib.Decide.{decLe}
 use native.Mathlib.Omega.{arith}
 use lib.ListN.{length, take, drop, length-append, drop-of-length-le}
 use lib.Seq.{take-nil, drop-nil, take-all}
+use Rattle.laws.specs.Text.{zeros}
 use Rattle.digits_exp.specs.declared.Span.{Span}
 use Rattle.digits_exp.specs.declared.DigitsExp.{DigitsExp}
 use Rattle.digits_exp.specs.declared.Counts.{Counts}
-use Rattle.digits_exp.specs.Meaning.{zeros, spanOf, Stands, IsExp, StandsExp, digitsExpOf}
+use Rattle.digits_exp.specs.Meaning.{spanOf, Stands, IsExp, StandsExp, digitsExpOf}
 use Rattle.digits_exp.specs.Inner.{cutOf}
 use Rattle.digits_exp.specs.Zeros.{zeros-length, take-zeros, drop-zeros}
 

@@ -6,11 +6,12 @@ use Prim.Native.Nat.{ℕ}
 use native.Mathlib.Omega.{arith}
 use lib.ListN.{length}
 use lib.Dec.{eqb}
+use Rattle.laws.specs.Text.{zeros}
 use Rattle.laws.specs.Lists.{no-length}
 use Rattle.digits_exp.specs.declared.Span.{Span}
 use Rattle.digits_exp.specs.declared.Pair.{Pair}
 use Rattle.digits.specs.Meaning.{isZero, dropWhile, dropBack}
-use Rattle.digits_exp.specs.Meaning.{zeros, spanOf, IsSpan, Stands, StandsExp, digitsExpOf}
+use Rattle.digits_exp.specs.Meaning.{spanOf, IsSpan, Stands, StandsExp, digitsExpOf}
 use Rattle.digits_exp.specs.Inner.{emptySpan, StandsPair}
 use Rattle.digits_exp.specs.Zeros.{while-append-none, while-append-some, back-append-none, back-append-some, only-if, int-zeros, frac-zeros}
 use Rattle.digits_exp.proofs.Spans.{empty-stands}

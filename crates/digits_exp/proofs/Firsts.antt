@@ -4,12 +4,14 @@ use mathlib.Core.List.{List, [], _∷_, _++_}
 use Prim.Native.Nat.{ℕ, suc, _-_, _≤_, _<_}
 use native.Mathlib.Omega.{arith}
 use lib.ListN.{length, getD, drop}
+use Rattle.laws.specs.Lists.{part}
+use Rattle.laws.specs.Text.{zeros}
 use Rattle.laws.specs.Lists.{no-length}
 use Rattle.digits_exp.specs.declared.Span.{Span}
 use Rattle.digits_exp.specs.declared.DigitsExp.{DigitsExp}
 use Rattle.digits_exp.specs.declared.FirstDigit.the-variants.{Is, Nothing}
 use Rattle.digits.specs.Meaning.{isUnd, digitsOf, StartsWithNo}
-use Rattle.digits_exp.specs.Meaning.{part, zeros, spanOf, IsSpan, Stands, IsExp, digitsExpOf, firstDigits, RestIs}
+use Rattle.digits_exp.specs.Meaning.{spanOf, IsSpan, Stands, IsExp, digitsExpOf, firstDigits, RestIs}
 use Rattle.digits_exp.specs.Promise.{SplitFirst}
 
 -- ---- the first byte of a view that has a digit is that digit

@@ -12,6 +12,7 @@ use lib.Signed.{ltZ}
 use mir.Syntax.{w32}
 use mir.Val.{SFits, toZ, ofZ}
 use mir.Facts.{toZ-ofZ}
+use Rattle.laws.specs.Text.{zeros}
 use Rattle.laws.specs.Signed.{signed}
 use Rattle.laws.specs.Tests.{ltZ-true, ltZ-false}
 use Rattle.digits_exp.specs.declared.Span.{Span}
@@ -19,7 +20,7 @@ use Rattle.digits_exp.specs.declared.DigitsExp.{DigitsExp}
 use Rattle.digits_exp.specs.declared.IntFrac.{IntFrac}
 use Rattle.digits.specs.Meaning.{isZero, dropWhile, dropBack}
 use Rattle.digits_exp.specs.Zeros.{zeros-length, take-zeros, drop-zeros, while-append-none, back-append-none, zeros-while, zeros-back}
-use Rattle.digits_exp.specs.Meaning.{zeros, spanOf, IsSpan, Stands, StandsExp, digitsExpOf, rightInt, rightFrac, leftInt, leftFrac, movedInt, movedFrac, StandsDropped}
+use Rattle.digits_exp.specs.Meaning.{spanOf, IsSpan, Stands, StandsExp, digitsExpOf, rightInt, rightFrac, leftInt, leftFrac, movedInt, movedFrac, StandsDropped}
 use Rattle.digits_exp.specs.Inner.{emptySpan, emptyExp, Moved}
 use Rattle.digits_exp.proofs.Spans.{empty-stands}
 

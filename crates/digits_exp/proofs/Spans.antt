@@ -6,29 +6,23 @@ use native.Mathlib.Nat.{sub-zero, zero-sub, suc-sub-suc}
 use native.Mathlib.Omega.{arith}
 use lib.ListN.{length, take, drop, length-take, length-drop, length-append, take-append-drop}
 use lib.Seq.{take-nil, take-take, drop-drop}
+use Rattle.laws.specs.Lists.{part}
 use Rattle.digits_exp.specs.declared.Span.{Span}
 use Rattle.digits.specs.Meaning.{isUnd, isZero, digitsOf, takeWhile, dropWhile, dropBack, trimmed, undsFront, undsBack, StartsWithNo, IsView, headOf, tailOf, leadingZeros, trailingZeros}
 use Rattle.digits.specs.Runs.{while-length, middle, take-head, drop-head, head-length}
 use Rattle.digits.specs.Theorems.{new-whole, trimmed-view, trimmed-digits, head-digits, tail-digits}
 use Rattle.digits.specs.Theorems.{leading-within, trailing-within, leading-left, trailing-left}
-use Rattle.digits_exp.specs.Meaning.{part, spanOf, IsSpan, Stands}
+use Rattle.digits_exp.specs.Meaning.{spanOf, IsSpan, Stands}
 use Rattle.digits_exp.specs.Inner.{emptySpan}
 
 -- ---- a part of the text
 pub part-none : (t : List ℕ) (a e : ℕ) {r : List ℕ} → e ≤ a → r ≡ take 0 t → r ≡ part t a e
-unfolding part
 part-none t a e h q = let z : 0 ≡ e - a = omega arith in q ∙ ap (λ (k : ℕ). take k (drop a t)) z
 
-pub part-some : (t : List ℕ) (a e : ℕ) {u r : List ℕ} → u ≡ drop a t → r ≡ take (e - a) u → r ≡ part t a e
-unfolding part
-part-some t a e p q = q ∙ ap (take (e - a)) p
-
 pub part-within : (t : List ℕ) (a e : ℕ) → length (part t a e) ≤ length t - a
-unfolding part
 part-within t a e = simp (length-take, length-drop) (omega arith)
 
 part-room : (t : List ℕ) (a e : ℕ) → length (part t a e) ≤ e - a
-unfolding part
 part-room t a e = simp (length-take, length-drop) (omega arith)
 
 drop-take : (k m : ℕ) (l : List ℕ) → drop k (take m l) ≡ take (m - k) (drop k l)
@@ -40,7 +34,7 @@ drop-take (suc k) (suc m) (b ∷ l) = drop-take k m l ∙ ap (λ (j : ℕ). take
 -- ---- the view of a part lies in the text behind the `_` in front
 trim-lies : (t u : List ℕ) (a e : ℕ) → u ≡ part t a e
     → drop a t ≡ takeWhile isUnd u ++ (trimmed u ++ (undsBack u ++ drop (e - a) (drop a t)))
-unfolding part undsFront
+unfolding undsFront
 trim-lies t u a e q =
     let z = drop (e - a) (drop a t) in
     sym
@@ -60,7 +54,6 @@ trimmed-length u =
 
 module _ (t : List ℕ) (a e : ℕ) {u v : List ℕ} {f : ℕ} (eu : u ≡ part t a e) (ef : f ≡ length (takeWhile isUnd u)) (ev : v ≡ trimmed u) where
   trim-at : part t (a + f) (a + f + length v) ≡ v
-  unfolding part
   trim-at =
       let k : a + f + length v - (a + f) ≡ length v = omega arith in
       ap (λ (n : ℕ). take n (drop (a + f) t)) k ∙ ap (take (length v)) (sym (drop-drop f a t) ∙ ap (drop f) (trim-lies t u a e eu))
@@ -84,14 +77,12 @@ module _ (t : List ℕ) (a e : ℕ) {u v : List ℕ} {f : ℕ} (eu : u ≡ part 
 -- ---- a split of the part u at its digit number n, which ends after p bytes
 module _ (t : List ℕ) (a e n : ℕ) {u : List ℕ} {p : ℕ} (eu : u ≡ part t a e) (ep : p ≡ length (headOf u n)) where
   part-upto : part t a (a + p) ≡ headOf u n
-  unfolding part
   part-upto =
       let k : a + p - a ≡ p = omega arith in
       let h : p ≤ e - a = omega (arith, head-length u n, ap length eu, part-room t a e) in
       ap (λ (m : ℕ). take m (drop a t)) k ∙ sym (take-take p (e - a) (drop a t) h) ∙ ap (take p) (sym eu) ∙ ap (λ (m : ℕ). take m u) ep ∙ take-head u n
 
   part-from : part t (a + p) e ≡ tailOf u n
-  unfolding part
   part-from =
       let k : e - (a + p) ≡ e - a - p = omega arith in
       ap (λ (m : ℕ). take m (drop (a + p) t)) k ∙ ap (take (e - a - p)) (sym (drop-drop p a t)) ∙ sym (drop-take p (e - a) (drop a t))
@@ -108,7 +99,7 @@ module _ (t : List ℕ) (a e n : ℕ) {u : List ℕ} {p : ℕ} (eu : u ≡ part 
 
 -- ---- the view with no digits, a view as it is, and other words for the same digits
 pub empty-stands : (t : List ℕ) {r : Span} → r ≡ emptySpan → Stands t r []
-unfolding spanOf part StartsWithNo digitsOf
+unfolding spanOf StartsWithNo digitsOf
 empty-stands t q = subst (λ (r : Span). Stands t r []) (sym q) (record { is = record { view = record { front = tt; back = tt }; count = refl }; same = refl })
 
 pub self-stands : {t : List ℕ} {s : Span} → IsSpan t s → Stands t s (spanOf t s)

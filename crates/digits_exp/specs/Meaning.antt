@@ -2,23 +2,17 @@
 -- Assumes nothing.
 use mathlib.Core.Path.{_≡_}
 use mathlib.Core.List.{List, [], _∷_, _++_}
-use Prim.Native.Nat.{ℕ, suc, _-_}
-use lib.ListN.{length, take, drop, replicate}
+use Prim.Native.Nat.{ℕ, suc}
+use lib.ListN.{length, take, drop}
 use lib.IntN.{ℤ, pos, negsuc}
+use Rattle.laws.specs.Lists.{part}
+use Rattle.laws.specs.Text.{zeros}
 use Rattle.digits_exp.specs.declared.Span.{Span}
 use Rattle.digits_exp.specs.declared.DigitsExp.{DigitsExp}
 use Rattle.digits_exp.specs.declared.IntFrac.{IntFrac}
 use Rattle.digits_exp.specs.declared.FirstDigit.{FirstDigit}
 use Rattle.digits_exp.specs.declared.FirstDigit.the-variants.{Is, Nothing}
 use Rattle.digits.specs.Meaning.{isZero, digitsOf, dropWhile, dropBack, IsView}
-
--- the bytes from a up to e
-unfoldable pub part : List ℕ → ℕ → ℕ → List ℕ
-part t a e = take (e - a) (drop a t)
-
--- n digits `0`
-abbrev pub zeros : ℕ → List ℕ
-zeros n = replicate n 48
 
 -- the digits at a span of the text
 unfoldable pub spanOf : List ℕ → Span → List ℕ

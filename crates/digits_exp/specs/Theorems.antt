@@ -5,10 +5,11 @@ use Prim.Native.Nat.{ℕ, suc, _+_, _≤_}
 use native.Mathlib.Omega.{arith}
 use lib.ListN.{length, take, drop, length-append, length-take, take-append-drop}
 use lib.IntN.{ℤ, pos, negsuc, natAbs}
+use Rattle.laws.specs.Text.{zeros}
 use Rattle.digits.specs.Meaning.{isZero, dropWhile, dropBack, StartsWithNo}
 use Rattle.digits.specs.Runs.{while-length, back-length}
 use Rattle.digits.specs.Theorems.{drop-starts, back-starts}
-use Rattle.digits_exp.specs.Meaning.{zeros, rightInt, rightFrac, leftInt, leftFrac, movedInt, movedFrac}
+use Rattle.digits_exp.specs.Meaning.{rightInt, rightFrac, leftInt, leftFrac, movedInt, movedFrac}
 use Rattle.digits_exp.specs.Zeros.{zeros-length}
 
 -- ---- an exponent moves the point, and nothing else. The digits are those of integer and fraction with the zeros that pad them ..

@@ -8,8 +8,9 @@ use native.Mathlib.Omega.{arith}
 use lib.ListN.{length, length-append}
 use lib.Pow.{pow-add}
 use lib.IntN.{pos, negsuc}
+use Rattle.laws.specs.Text.{zeros}
 use Rattle.digits.specs.Meaning.{isZero, dropWhile, dropBack, leadingZeros, trailingZeros}
-use Rattle.digits_exp.specs.Meaning.{zeros, movedInt, movedFrac}
+use Rattle.digits_exp.specs.Meaning.{movedInt, movedFrac}
 use Rattle.digits_exp.specs.Zeros.{zeros-length}
 use Rattle.digits.specs.Theorems.{leading-whole, trailing-whole}
 use Rattle.digits_exp.specs.Theorems.{right-whole, left-whole, right-point, left-point}

@@ -9,9 +9,9 @@ use lib.ListN.{length, take, drop, length-replicate, replicate-append-replicate}
 use lib.Seq.{take-at, drop-at}
 use lib.Dec.{eqb}
 use borrow.Author.Tests.{eq-eqb, ne-eqb}
+use Rattle.laws.specs.Text.{zeros}
 use Rattle.digits.specs.Meaning.{isZero, dropWhile, dropBack}
 use Rattle.digits.specs.Runs.{replicate-reverse}
-use Rattle.digits_exp.specs.Meaning.{zeros}
 
 module _ (p : ℕ → Bool) where
   pub while-append-none : (s t : List ℕ) → dropWhile p s ≡ [] → dropWhile p (s ++ t) ≡ dropWhile p t

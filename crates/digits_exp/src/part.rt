@@ -1,6 +1,6 @@
 // A part of the text between two places, total: past its end there is nothing.
 ghost use mathlib.Core.Path.{_≡_};
-ghost use Rattle.digits_exp.specs.Meaning.{part};
+ghost use Rattle.laws.specs.Lists.{part};
 
 // The bytes from `from` up to `to`.
 pub(crate) fn between(run: &[u8], from: usize, to: usize) -> &[u8]

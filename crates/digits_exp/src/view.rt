@@ -2,8 +2,9 @@
 ghost use mathlib.Core.Path.{_≡_};
 ghost use Prim.Native.Nat.{_<_, _≤_};
 ghost use lib.ListN.{length, take, drop};
+ghost use Rattle.laws.specs.Lists.{part};
 ghost use Rattle.digits.specs.Meaning.{isZero, digitsOf, dropWhile, dropBack};
-ghost use Rattle.digits_exp.specs.Meaning.{part, spanOf, IsSpan, Stands};
+ghost use Rattle.digits_exp.specs.Meaning.{spanOf, IsSpan, Stands};
 ghost use Rattle.digits_exp.specs.Inner.{emptySpan};
 use super::Span;
 use super::part;

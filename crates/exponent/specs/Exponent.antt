@@ -8,7 +8,7 @@ use native.Mathlib.Omega.{arith}
 use lib.Dec.{leb}
 use borrow.Author.Tests.{ltb-true, le-leb, lt-leb, leb-true}
 use Rattle.grammar.specs.Meaning.{digitOf, Written, expLimit, withExp}
-use Rattle.grammar.specs.Automaton.{isDigit, Part, exponent, Seen, digit, Scan, at, refuse, Sep, onExpDigit, step}
+use Rattle.grammar.specs.Automaton.{isDigit, NumberPart, exponent, Seen, digit, Scan, at, refuse, Sep, onExpDigit, step}
 use Rattle.grammar.specs.Automaton.{scan, finish, onSign, onPoint, onUnderscore, onMark, onOther, readingOf}
 use Rattle.grammar.specs.Class.{classOf, ten-plain}
 use Rattle.grammar.specs.Run.{sepOf}
@@ -41,7 +41,7 @@ unfoldable pub expScan : ExpStep → Written → Scan
 expScan (On e) x = expAt true x e
 expScan (Refuse n) x = refuse n
 
-read-step : (k : Sep) (radix b : ℕ) (t : List ℕ) (p : Part) (q : Seen) (x : Written) {s : Scan} → step k radix b p q x ≡ s
+read-step : (k : Sep) (radix b : ℕ) (t : List ℕ) (p : NumberPart) (q : Seen) (x : Written) {s : Scan} → step k radix b p q x ≡ s
     → reading k radix (b ∷ t) (at p q x) ≡ reading k radix t s
 unfolding reading scan
 read-step k radix b t p q x e = ap (λ (s : Scan). readingOf (finish (scan k radix t s))) e

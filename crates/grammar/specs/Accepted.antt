@@ -11,12 +11,12 @@ use borrow.Author.Tests.{leb-true, ltb-true, eqb-true}
 use Rattle.format.specs.Meaning.{Sign}
 use Rattle.grammar.specs.Meaning.{digitOf, isSign, isMark, Written, Reading, number, unread, expLimit, prefixMark, prefixRadix}
 use Rattle.grammar.specs.Meaning.{afterPrefix, literalMinus, literalBody, literalRadix, isBitMark, isRadix, blank, withDigit}
-use Rattle.grammar.specs.Automaton.{Sep, Skip, Error, isDigit, baseOf, Part, whole, fraction, exponent, Seen, nothing}
+use Rattle.grammar.specs.Automaton.{Sep, Skip, Error, isDigit, baseOf, NumberPart, whole, fraction, exponent, Seen, nothing}
 use Rattle.grammar.specs.Automaton.{sign, digit, Scan, at, refuse, onExpDigit, step, scan, ended, finish, plainScan}
 use Rattle.grammar.specs.Automaton.{literalScan, onSign, onPoint, invalid, onUnderscore, onMark, onOther, readingOf}
 
 -- the exponent: 0 until a digit of it was read, then within its range
-unfoldable pub ExpIs : Part → Seen → Bool → ℕ → Type 0
+unfoldable pub ExpIs : NumberPart → Seen → Bool → ℕ → Type 0
 ExpIs whole q down e = e ≡ 0
 ExpIs fraction q down e = e ≡ 0
 ExpIs exponent nothing down e = e ≡ 0
@@ -24,20 +24,20 @@ ExpIs exponent sign down e = e ≡ 0
 ExpIs exponent digit down e = e ≤ expLimit down
 
 -- what a decimal exponent scales by: 10, and there is none without a mark
-abbrev pub TenIs : Part → ℕ → ℕ → Type 0
+abbrev pub TenIs : NumberPart → ℕ → ℕ → Type 0
 TenIs whole base e = e ≡ 0
 TenIs fraction base e = e ≡ 0
 TenIs exponent base e = base ≡ 10
 
 -- what the exponent scales by: 1 where there is none, then 2 or the radix
-unfoldable pub BaseIs : ℕ → Part → ℕ → Type 0
+unfoldable pub BaseIs : ℕ → NumberPart → ℕ → Type 0
 BaseIs radix whole base = base ≡ 1
 BaseIs radix fraction base = base ≡ 1
 BaseIs radix exponent base = (base ≡ 2) ⊎ (base ≡ radix)
 
 -- A number of the radix: its digits are below the radix, no more of them stand after the point than there are, what the exponent scales by is
 -- the radix or 2 (1 if there is no mark), and the exponent is in its range.
-pub record Sound (radix : ℕ) (p : Part) (q : Seen) (x : Written) : Type 0 where
+pub record Sound (radix : ℕ) (p : NumberPart) (q : Seen) (x : Written) : Type 0 where
   pub below : (d : ℕ) → List·Memᴰ d (x .digits) → d < radix
   pub within : x .after ≤ length (x .digits)
   pub base-is : BaseIs radix p (x .base)
@@ -45,7 +45,7 @@ pub record Sound (radix : ℕ) (p : Part) (q : Seen) (x : Written) : Type 0 wher
   pub ten-is : radix ≡ 10 → TenIs p (x .base) (x .exp)
 
 pub data Ends (radix : ℕ) : Scan → Type 0 where
-  ends-at : {p : Part} {q : Seen} {x : Written} → Sound radix p q x → Ends radix (at p q x)
+  ends-at : {p : NumberPart} {q : Seen} {x : Written} → Sound radix p q x → Ends radix (at p q x)
   ends-not : {n : ℕ} → 11 ≤ n → n ≤ 19 → Ends radix (refuse n)
 
 -- a test's two outcomes
@@ -72,7 +72,7 @@ module _ (radix : ℕ) where
   sound-blank neg q = record { below = λ d m. absurd (List·Memᴰ·not-nil m); within = omega arith; base-is = refl; exp-is = refl; ten-is = λ r. refl }
 
   -- one more digit of the number
-  sound-digit : (p : Part) (x : Written) (d places : ℕ) (q : Seen) → d < radix → places ≤ 1 → Sound radix p q x → ExpIs p digit (x .down) (x .exp)
+  sound-digit : (p : NumberPart) (x : Written) (d places : ℕ) (q : Seen) → d < radix → places ≤ 1 → Sound radix p q x → ExpIs p digit (x .down) (x .exp)
       → Sound radix p digit (withDigit x d places)
   sound-digit p x d places q h l s e =
       record {
@@ -87,7 +87,7 @@ module _ (radix : ℕ) where
       pick c (inl m) = s .below c m
       pick c (inr m) = subst (λ (v : ℕ). v < radix) (sym (List·Memᴰ·eq-of-singleton m)) h
 
-  on-sign : (minus : Bool) (p : Part) (q : Seen) (x : Written) → Sound radix p q x → Ends radix (onSign minus p q x)
+  on-sign : (minus : Bool) (p : NumberPart) (q : Seen) (x : Written) → Sound radix p q x → Ends radix (onSign minus p q x)
   unfolding onSign ExpIs
   on-sign minus whole nothing x s = ends-at (sound-blank minus sign)
   on-sign minus whole sign x s = stop 12 tt tt
@@ -97,25 +97,25 @@ module _ (radix : ℕ) where
   on-sign minus exponent sign x s = stop 12 tt tt
   on-sign minus exponent digit x s = stop 12 tt tt
 
-  on-point : (p : Part) (q : Seen) (x : Written) → Sound radix p q x → Ends radix (onPoint p x)
+  on-point : (p : NumberPart) (q : Seen) (x : Written) → Sound radix p q x → Ends radix (onPoint p x)
   unfolding onPoint ExpIs BaseIs
   on-point whole q x s = ends-at (record { below = s .below; within = s .within; base-is = s .base-is; exp-is = s .exp-is; ten-is = s .ten-is })
   on-point fraction q x s = stop 15 tt tt
   on-point exponent q x s = stop 16 tt tt
 
-  on-invalid : (p : Part) → Ends radix (invalid p)
+  on-invalid : (p : NumberPart) → Ends radix (invalid p)
   on-invalid whole = stop 13 tt tt
   on-invalid fraction = stop 13 tt tt
   on-invalid exponent = stop 16 tt tt
 
-  on-underscore : (k : Sep) (p : Part) (q : Seen) (x : Written) → Sound radix p q x → Ends radix (onUnderscore k p q x)
+  on-underscore : (k : Sep) (p : NumberPart) (q : Seen) (x : Written) → Sound radix p q x → Ends radix (onUnderscore k p q x)
   unfolding onUnderscore
   on-underscore Error p q x s = on-invalid p
   on-underscore Skip p nothing x s = stop 14 tt tt
   on-underscore Skip p sign x s = stop 14 tt tt
   on-underscore Skip p digit x s = ends-at s
 
-  on-mark : (b : ℕ) (p : Part) (q : Seen) (x : Written) → isMark radix b ≡ true → Sound radix p q x → Ends radix (onMark (baseOf radix b) p x)
+  on-mark : (b : ℕ) (p : NumberPart) (q : Seen) (x : Written) → isMark radix b ≡ true → Sound radix p q x → Ends radix (onMark (baseOf radix b) p x)
   unfolding onMark ExpIs BaseIs
   on-mark b whole q x m s = ends-at (record {
     below = s .below;
@@ -140,7 +140,7 @@ module _ (radix : ℕ) where
       (λ t. ends-at (record { below = s .below; within = s .within; base-is = s .base-is; exp-is = leb-true _ _ t; ten-is = s .ten-is }))
       (λ t. stop 19 tt tt)
 
-  on-other : (b : ℕ) (p : Part) (q : Seen) (x : Written) → Sound radix p q x → Ends radix (onOther radix b p x)
+  on-other : (b : ℕ) (p : NumberPart) (q : Seen) (x : Written) → Sound radix p q x → Ends radix (onOther radix b p x)
   unfolding onOther ExpIs
   on-other b whole q x s =
       by-test (Ends radix) (isDigit radix b) (λ t. ends-at (sound-digit whole x (digitOf b) 0 q (ltb-true _ _ t) (omega arith) s (s .exp-is)))
@@ -150,7 +150,7 @@ module _ (radix : ℕ) where
       (λ t. on-invalid fraction)
   on-other b exponent q x s = by-test (Ends radix) (isDigit 10 b) (λ t. on-exp-digit (digitOf b) q x s) (λ t. on-invalid exponent)
 
-  on-byte : (k : Sep) (b : ℕ) (p : Part) (q : Seen) (x : Written) → Sound radix p q x → Ends radix (step k radix b p q x)
+  on-byte : (k : Sep) (b : ℕ) (p : NumberPart) (q : Seen) (x : Written) → Sound radix p q x → Ends radix (step k radix b p q x)
   unfolding step
   on-byte k b p q x s =
       by-test (Ends radix) (isSign b) (λ t. on-sign (eqb b 45) p q x s) (λ t.
@@ -164,7 +164,7 @@ module _ (radix : ℕ) where
   on-bytes k (b ∷ t) (ends-at {p} {q} {x} s) = on-bytes k t (on-byte k b p q x s)
   on-bytes k (b ∷ t) (ends-not l h) = ends-not l h
 
-  on-end : (p : Part) (q : Seen) (x : Written) → Sound radix p q x → Ends radix (ended p q x)
+  on-end : (p : NumberPart) (q : Seen) (x : Written) → Sound radix p q x → Ends radix (ended p q x)
   unfolding ended
   on-end whole q x s = ends-at s
   on-end fraction q x s = ends-at s
@@ -190,7 +190,7 @@ literal-ends s t =
 
 -- ---- the same of a reading: where the scan stood at the end matters no more
 pub record Numbered (radix : ℕ) (x : Written) : Type 0 where
-  pub part : Part
+  pub part : NumberPart
   pub seen : Seen
   pub sound : Sound radix part seen x
 
@@ -208,7 +208,7 @@ says-numbered (says s) = s
 
 -- a number that is read is where a scan ended
 pub record At (r : Scan) (x : Written) : Type 0 where
-  pub part : Part
+  pub part : NumberPart
   pub seen : Seen
   pub is : r ≡ at part seen x
 
@@ -218,7 +218,7 @@ number-at (at p q y) {x} e = let same : y ≡ x = cc in record { part = p; seen 
 number-at (refuse n) e = let z : _≡_ {A = ℕ} 0 1 = cc in absurd (omega arith)
 
 -- what an outcome of a scan tells
-pub ends-sound : {radix : ℕ} {p : Part} {q : Seen} {x : Written} → Ends radix (at p q x) → Sound radix p q x
+pub ends-sound : {radix : ℕ} {p : NumberPart} {q : Seen} {x : Written} → Ends radix (at p q x) → Sound radix p q x
 ends-sound (ends-at s) = s
 
 -- ---- the radix
@@ -242,17 +242,17 @@ prefix-legal t =
     by-test P (eqb (getD t 0 0) 48) (λ _. by-test P (eqb b 98) (λ _. refl) (λ _. by-test P (eqb b 111) (λ _. refl)
     (λ _. by-test P (eqb b 120) (λ _. refl) (λ _. refl)))) (λ _. refl)
 
-pub sound-bases : {radix : ℕ} {p : Part} {q : Seen} {x : Written} → Sound radix p q x → (x .base ≡ 1) ⊎ (x .base ≡ 2) ⊎ (x .base ≡ radix)
+pub sound-bases : {radix : ℕ} {p : NumberPart} {q : Seen} {x : Written} → Sound radix p q x → (x .base ≡ 1) ⊎ (x .base ≡ 2) ⊎ (x .base ≡ radix)
 unfolding BaseIs
 sound-bases {radix} {p} {q} {x} s = go p (s .base-is)
   where
-    go : (p : Part) → BaseIs radix p (x .base) → (x .base ≡ 1) ⊎ (x .base ≡ 2) ⊎ (x .base ≡ radix)
+    go : (p : NumberPart) → BaseIs radix p (x .base) → (x .base ≡ 1) ⊎ (x .base ≡ 2) ⊎ (x .base ≡ radix)
     go whole e = inl e
     go fraction e = inl e
     go exponent (inl e) = inr (inl e)
     go exponent (inr e) = inr (inr e)
 
-pub sound-base : {radix : ℕ} {p : Part} {q : Seen} {x : Written} → 0 < radix → Sound radix p q x → 0 < x .base
+pub sound-base : {radix : ℕ} {p : NumberPart} {q : Seen} {x : Written} → 0 < radix → Sound radix p q x → 0 < x .base
 sound-base {radix} {p} {q} {x} h s = go (sound-bases s)
   where
     go : (x .base ≡ 1) ⊎ (x .base ≡ 2) ⊎ (x .base ≡ radix) → 0 < x .base
@@ -260,11 +260,11 @@ sound-base {radix} {p} {q} {x} h s = go (sound-bases s)
     go (inr (inl e)) = omega arith
     go (inr (inr e)) = omega arith
 
-pub sound-exp : {radix : ℕ} {p : Part} {q : Seen} {x : Written} → Sound radix p q x → x .exp ≤ expLimit (x .down)
+pub sound-exp : {radix : ℕ} {p : NumberPart} {q : Seen} {x : Written} → Sound radix p q x → x .exp ≤ expLimit (x .down)
 unfolding ExpIs
 sound-exp {radix} {p} {q} {x} s = go p q (s .exp-is)
   where
-    go : (p : Part) (q : Seen) → ExpIs p q (x .down) (x .exp) → x .exp ≤ expLimit (x .down)
+    go : (p : NumberPart) (q : Seen) → ExpIs p q (x .down) (x .exp) → x .exp ≤ expLimit (x .down)
     go whole q e = omega arith
     go fraction q e = omega arith
     go exponent nothing e = omega arith
@@ -272,12 +272,12 @@ sound-exp {radix} {p} {q} {x} s = go p q (s .exp-is)
     go exponent digit e = e
 
 -- ---- what is accepted at the end was there before it, and has a digit
-pub finish-at : (r : Scan) {p : Part} {q : Seen} {x : Written} → finish r ≡ at p q x → (r ≡ at p q x) × (eqb (length (x .digits)) 0 ≡ false)
+pub finish-at : (r : Scan) {p : NumberPart} {q : Seen} {x : Written} → finish r ≡ at p q x → (r ≡ at p q x) × (eqb (length (x .digits)) 0 ≡ false)
 unfolding finish ended
 finish-at (refuse n) e = let z : _≡_ {A = ℕ} 0 1 = cc in absurd (omega arith)
 finish-at (at p q y) {p = p′} {q = q′} {x} e = go (eqb (length (y .digits)) 0) refl p q e
   where
-    go : (t : Bool) → eqb (length (y .digits)) 0 ≡ t → (p : Part) (q : Seen) → cond t (refuse 11) (ended p q y) ≡ at p′ q′ x
+    go : (t : Bool) → eqb (length (y .digits)) 0 ≡ t → (p : NumberPart) (q : Seen) → cond t (refuse 11) (ended p q y) ≡ at p′ q′ x
         → (at p q y ≡ at p′ q′ x) × (eqb (length (x .digits)) 0 ≡ false)
     go true z p q e = let z : _≡_ {A = ℕ} 0 1 = cc in absurd (omega arith)
     go false z whole q e = let same : y ≡ x = cc in (e, ap (λ (v : Written). eqb (length (v .digits)) 0) (sym same) ∙ z)

@@ -18,21 +18,21 @@ abbrev pub baseOf : ℕ → ℕ → ℕ
 baseOf radix b = cond (isBitMark b) 2 radix
 
 -- Where the scan stands: in which part of the number, and what was read of that part.
-pub data Part : Type 0 where
-  whole fraction exponent : Part
+pub data NumberPart : Type 0 where
+  whole fraction exponent : NumberPart
 
 pub data Seen : Type 0 where
   nothing sign digit : Seen
 
 pub data Scan : Type 0 where
-  at : Part → Seen → Written → Scan
+  at : NumberPart → Seen → Written → Scan
   refuse : ℕ → Scan
 
 pub data Sep : Type 0 where
   Skip Error : Sep
 
 -- a sign stands first in the number, or first in the exponent; elsewhere it is misplaced (12)
-unfoldable pub onSign : Bool → Part → Seen → Written → Scan
+unfoldable pub onSign : Bool → NumberPart → Seen → Written → Scan
 onSign minus whole nothing x = at whole sign (blank minus)
 onSign minus whole sign x = refuse 12
 onSign minus whole digit x = refuse 12
@@ -42,26 +42,26 @@ onSign minus exponent sign x = refuse 12
 onSign minus exponent digit x = refuse 12
 
 -- at most one point (15), and none in the exponent (16)
-unfoldable pub onPoint : Part → Written → Scan
+unfoldable pub onPoint : NumberPart → Written → Scan
 onPoint whole x = at fraction nothing x
 onPoint fraction x = refuse 15
 onPoint exponent x = refuse 16
 
 -- a byte that is no digit of its part
-abbrev pub invalid : Part → Scan
+abbrev pub invalid : NumberPart → Scan
 invalid whole = refuse 13
 invalid fraction = refuse 13
 invalid exponent = refuse 16
 
 -- the plain reader has no `_`; the literal reader skips it once a digit of the part was read, and before that it is misplaced (14)
-unfoldable pub onUnderscore : Sep → Part → Seen → Written → Scan
+unfoldable pub onUnderscore : Sep → NumberPart → Seen → Written → Scan
 onUnderscore Error p q x = invalid p
 onUnderscore Skip p nothing x = refuse 14
 onUnderscore Skip p sign x = refuse 14
 onUnderscore Skip p digit x = at p digit x
 
 -- one mark (18)
-unfoldable pub onMark : ℕ → Part → Written → Scan
+unfoldable pub onMark : ℕ → NumberPart → Written → Scan
 onMark base whole x = at exponent nothing (withBase x base)
 onMark base fraction x = at exponent nothing (withBase x base)
 onMark base exponent x = refuse 18
@@ -70,12 +70,12 @@ unfoldable pub onExpDigit : ℕ → Written → Scan
 onExpDigit d x = cond (leb (x .exp * 10 + d) (expLimit (x .down))) (at exponent digit (withExp x (x .down) (x .exp * 10 + d))) (refuse 19)
 
 -- a digit, of the radix or, in the exponent, decimal; or a byte that has no place
-unfoldable pub onOther : ℕ → ℕ → Part → Written → Scan
+unfoldable pub onOther : ℕ → ℕ → NumberPart → Written → Scan
 onOther radix b whole x = cond (isDigit radix b) (at whole digit (withDigit x (digitOf b) 0)) (invalid whole)
 onOther radix b fraction x = cond (isDigit radix b) (at fraction digit (withDigit x (digitOf b) 1)) (invalid fraction)
 onOther radix b exponent x = cond (isDigit 10 b) (onExpDigit (digitOf b) x) (invalid exponent)
 
-unfoldable pub step : Sep → ℕ → ℕ → Part → Seen → Written → Scan
+unfoldable pub step : Sep → ℕ → ℕ → NumberPart → Seen → Written → Scan
 step k radix b p q x =
     cond (isSign b) (onSign (eqb b 45) p q x)
     (cond (eqb b 46) (onPoint p x)
@@ -89,7 +89,7 @@ scan k radix [] r = r
 scan k radix (b ∷ t) (refuse n) = refuse n
 scan k radix (b ∷ t) (at p q x) = scan k radix t (step k radix b p q x)
 
-unfoldable pub ended : Part → Seen → Written → Scan
+unfoldable pub ended : NumberPart → Seen → Written → Scan
 ended whole q x = at whole q x
 ended fraction q x = at fraction q x
 ended exponent nothing x = refuse 17

@@ -11,7 +11,7 @@ use borrow.Author.Tests.{eqb-true, eqb-false, ne-eqb}
 use Rattle.format.specs.Meaning.{Sign, signed, unsigned}
 use Rattle.grammar.specs.Meaning.{isSign, Written, number, plainReading, literalReading, prefixMark, prefixRadix}
 use Rattle.grammar.specs.Meaning.{dropUnderscores, afterPrefix, literalMinus, literalBody, literalRadix, blank}
-use Rattle.grammar.specs.Automaton.{Sep, Skip, Error, Part, whole, Seen, nothing, sign, digit, Scan, at, refuse}
+use Rattle.grammar.specs.Automaton.{Sep, Skip, Error, NumberPart, whole, Seen, nothing, sign, digit, Scan, at, refuse}
 use Rattle.grammar.specs.Automaton.{step, scan, finish, plainScan, literalScan, onSign, onUnderscore, readingOf}
 use Rattle.grammar.specs.Accepted.{finish-at, scan-refuse, number-at}
 use Rattle.grammar.specs.Agrees.{or-right, plain-scanned, literal-scanned}
@@ -28,7 +28,7 @@ short-prefix (a ∷ []) h = same-either (eqb a 48)
 short-prefix (a ∷ b ∷ l) h = absurd (omega arith)
 
 -- ---- `_`: where there is none the readers scan alike
-step-sep : (radix b : ℕ) (p : Part) (q : Seen) (x : Written) → (95 ≡ b → ⊥) → step Skip radix b p q x ≡ step Error radix b p q x
+step-sep : (radix b : ℕ) (p : NumberPart) (q : Seen) (x : Written) → (95 ≡ b → ⊥) → step Skip radix b p q x ≡ step Error radix b p q x
 unfolding step
 step-sep radix b p q x h = rw (ne-eqb b 95 (λ e. h (sym e)))
 
@@ -53,14 +53,14 @@ bare-length (b ∷ t) = go (eqb b 95) (bare-length t)
     go true h = omega arith
     go false h = omega arith
 
-step-under : (radix b : ℕ) (p : Part) (q : Seen) (x : Written) → b ≡ 95 → step Skip radix b p q x ≡ onUnderscore Skip p q x
+step-under : (radix b : ℕ) (p : NumberPart) (q : Seen) (x : Written) → b ≡ 95 → step Skip radix b p q x ≡ onUnderscore Skip p q x
 unfolding step
 step-under radix b p q x e = rw e
 
 -- a scan that skips them and is not refused is a scan without them
-module _ (radix : ℕ) {p′ : Part} {q′ : Seen} {y : Written} where
+module _ (radix : ℕ) {p′ : NumberPart} {q′ : Seen} {y : Written} where
   -- where a digit was read, `_` leaves everything as it is
-  skipped : (t : List ℕ) (p : Part) (q : Seen) (x : Written) → ((r : Scan) → scan Skip radix t r ≡ at p′ q′ y → scan Error radix (bare t) r ≡ at p′ q′ y)
+  skipped : (t : List ℕ) (p : NumberPart) (q : Seen) (x : Written) → ((r : Scan) → scan Skip radix t r ≡ at p′ q′ y → scan Error radix (bare t) r ≡ at p′ q′ y)
       → scan Skip radix t (onUnderscore Skip p q x) ≡ at p′ q′ y → scan Error radix (bare t) (at p q x) ≡ at p′ q′ y
   unfolding onUnderscore
   skipped t p nothing x rest e = let z = sym (scan-refuse Skip radix t 14) ∙ e in let no : _≡_ {A = ℕ} 0 1 = cc in absurd (omega arith)
@@ -106,7 +106,7 @@ misplaced k radix [] neg h = absurd (false≢true h)
 misplaced k radix (b ∷ t) neg h = ap (λ (y : Scan). finish (scan k radix t y)) (step-misplaced k radix b (blank neg) h) ∙ ap finish (scan-refuse k radix t 12)
 
 -- so a body that is taken starts with none
-pub body-opens : (k : Sep) (radix : ℕ) (t : List ℕ) (neg : Bool) {p : Part} {q : Seen} {x : Written} → body-scan k radix t neg ≡ at p q x
+pub body-opens : (k : Sep) (radix : ℕ) (t : List ℕ) (neg : Bool) {p : NumberPart} {q : Seen} {x : Written} → body-scan k radix t neg ≡ at p q x
     → isSign (getD t 0 0) ≡ false
 body-opens k radix t neg {p} {q} {x} e = go (isSign (getD t 0 0)) refl
   where
@@ -130,12 +130,12 @@ signedText neg t = cond neg (45 ∷ t) t
 abbrev pub plainText : Sign → List ℕ → List ℕ
 plainText s t = signedText (literalMinus s t) (bare (afterPrefix (literalBody s t)))
 
-body-plain : (radix : ℕ) (t : List ℕ) (neg : Bool) {p : Part} {q : Seen} {x : Written} → body-scan Error radix t neg ≡ at p q x
+body-plain : (radix : ℕ) (t : List ℕ) (neg : Bool) {p : NumberPart} {q : Seen} {x : Written} → body-scan Error radix t neg ≡ at p q x
     → plainScan radix (signedText neg t) ≡ at p q x
 body-plain radix t true e = sym (signed-scan radix t) ∙ e
 body-plain radix t false e = sym (bare-scan-unsigned radix t (body-opens Error radix t false e)) ∙ e
 
-literal-bare : (s : Sign) (t : List ℕ) {p : Part} {q : Seen} {x : Written} → literalScan s t ≡ at p q x
+literal-bare : (s : Sign) (t : List ℕ) {p : NumberPart} {q : Seen} {x : Written} → literalScan s t ≡ at p q x
     → plainScan (literalRadix s t) (plainText s t) ≡ at p q x
 unfolding literalScan
 literal-bare s t {p} {q} {x} e =
@@ -216,7 +216,7 @@ module _ (s : Sign) (t : List ℕ) (plain : List·Memᴰ 95 t → ⊥) (ten : li
       go (inr h) = rw (no-minus s t h) (scan-unsigned 10 t false h)
 
   -- where the literal reader takes the text it starts so
-  taken-opens : {p : Part} {q : Seen} {x : Written} → literalScan s t ≡ at p q x → Opens s t
+  taken-opens : {p : NumberPart} {q : Seen} {x : Written} → literalScan s t ≡ at p q x → Opens s t
   taken-opens {p} {q} {x} e = go (literalMinus s t) refl (sym (literal-body s t ten) ∙ e)
     where
       go : (m : Bool) → literalMinus s t ≡ m → body-scan Skip 10 (literalBody s t) (literalMinus s t) ≡ at p q x → Opens s t

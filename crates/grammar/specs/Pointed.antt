@@ -11,23 +11,23 @@ use borrow.Author.Tests.{eqb-true, eqb-false}
 use Rattle.format.specs.Meaning.{Sign, signed, unsigned}
 use Rattle.grammar.specs.Meaning.{isSign, isMark, Written, number, expLimit, plainReading, literalMinus, literalBody, prefixMark}
 use Rattle.grammar.specs.Meaning.{prefixRadix, dropUnderscores, afterPrefix, literalRadix, literalReading, digitOf, blank}
-use Rattle.grammar.specs.Automaton.{isDigit, baseOf, Part, whole, fraction, exponent, Seen, nothing, sign, digit, Scan, at, refuse, Sep, Skip, Error}
+use Rattle.grammar.specs.Automaton.{isDigit, baseOf, NumberPart, whole, fraction, exponent, Seen, nothing, sign, digit, Scan, at, refuse, Sep, Skip, Error}
 use Rattle.grammar.specs.Automaton.{onSign, onPoint, onUnderscore, onMark, onExpDigit, onOther, step, scan, finish, plainScan, literalScan, readingOf}
 use Rattle.grammar.specs.Accepted.{by-test, BaseIs, Sound, Ends, ends-sound, finish-at, number-at, plain-ends, literal-ends}
 use Rattle.grammar.specs.Agrees.{plain-scanned, literal-scanned}
 use Rattle.grammar.specs.Literals.{short-prefix, same-either}
 
 -- ---- past the whole part: what is there stays there
-abbrev past : Part → Bool
+abbrev past : NumberPart → Bool
 past whole = false
 past fraction = true
 past exponent = true
 
 pub data Past : Scan → Type 0 where
-  past-at : {p : Part} {q : Seen} {x : Written} → past p ≡ true → Past (at p q x)
+  past-at : {p : NumberPart} {q : Seen} {x : Written} → past p ≡ true → Past (at p q x)
   past-not : {n : ℕ} → Past (refuse n)
 
-past-sign : (minus : Bool) (p : Part) (q : Seen) (x : Written) → past p ≡ true → Past (onSign minus p q x)
+past-sign : (minus : Bool) (p : NumberPart) (q : Seen) (x : Written) → past p ≡ true → Past (onSign minus p q x)
 unfolding onSign
 past-sign minus whole q x h = absurd (false≢true h)
 past-sign minus fraction q x h = past-not
@@ -35,13 +35,13 @@ past-sign minus exponent nothing x h = past-at refl
 past-sign minus exponent sign x h = past-not
 past-sign minus exponent digit x h = past-not
 
-past-point : (p : Part) (x : Written) → Past (onPoint p x)
+past-point : (p : NumberPart) (x : Written) → Past (onPoint p x)
 unfolding onPoint
 past-point whole x = past-at refl
 past-point fraction x = past-not
 past-point exponent x = past-not
 
-past-underscore : (k : Sep) (p : Part) (q : Seen) (x : Written) → past p ≡ true → Past (onUnderscore k p q x)
+past-underscore : (k : Sep) (p : NumberPart) (q : Seen) (x : Written) → past p ≡ true → Past (onUnderscore k p q x)
 unfolding onUnderscore
 past-underscore Error whole q x h = past-not
 past-underscore Error fraction q x h = past-not
@@ -50,13 +50,13 @@ past-underscore Skip p nothing x h = past-not
 past-underscore Skip p sign x h = past-not
 past-underscore Skip p digit x h = past-at h
 
-past-mark : (base : ℕ) (p : Part) (x : Written) → Past (onMark base p x)
+past-mark : (base : ℕ) (p : NumberPart) (x : Written) → Past (onMark base p x)
 unfolding onMark
 past-mark base whole x = past-at refl
 past-mark base fraction x = past-at refl
 past-mark base exponent x = past-not
 
-past-other : (radix b : ℕ) (p : Part) (x : Written) → past p ≡ true → Past (onOther radix b p x)
+past-other : (radix b : ℕ) (p : NumberPart) (x : Written) → past p ≡ true → Past (onOther radix b p x)
 unfolding onOther onExpDigit
 past-other radix b whole x h = absurd (false≢true h)
 past-other radix b fraction x h = by-test Past (isDigit radix b) (λ t. past-at refl) (λ t. past-not)
@@ -64,7 +64,7 @@ past-other radix b exponent x h =
     by-test Past (isDigit 10 b) (λ t. by-test Past (leb (x .exp * 10 + digitOf b) (expLimit (x .down))) (λ l. past-at refl) (λ l. past-not)) (λ t. past-not)
 
 module _ (k : Sep) (radix : ℕ) where
-  past-step : (b : ℕ) (p : Part) (q : Seen) (x : Written) → past p ≡ true → Past (step k radix b p q x)
+  past-step : (b : ℕ) (p : NumberPart) (q : Seen) (x : Written) → past p ≡ true → Past (step k radix b p q x)
   unfolding step
   past-step b p q x h =
       by-test Past (isSign b) (λ t. past-sign (eqb b 45) p q x h) (λ t.
@@ -79,7 +79,7 @@ module _ (k : Sep) (radix : ℕ) where
   past-scan (b ∷ t) past-not = past-not
 
   -- a point is read in the whole part, and nowhere else
-  point-step : (b : ℕ) (p : Part) (q : Seen) (x : Written) → 46 ≡ b → Past (step k radix b p q x)
+  point-step : (b : ℕ) (p : NumberPart) (q : Seen) (x : Written) → 46 ≡ b → Past (step k radix b p q x)
   unfolding step
   point-step b p q x e = subst (λ (c : ℕ). Past (step k radix c p q x)) e (past-point p x)
 
@@ -94,7 +94,7 @@ module _ (k : Sep) (radix : ℕ) where
       go (inr m) rest = rest m
 
 -- ---- in the fraction, if there is no exponent: what an exponent scales by is not 1
-fraction-is : (radix : ℕ) (p : Part) (q : Seen) (x : Written) → 2 ≤ radix → past p ≡ true → Sound radix p q x → x .base ≡ 1 → p ≡ fraction
+fraction-is : (radix : ℕ) (p : NumberPart) (q : Seen) (x : Written) → 2 ≤ radix → past p ≡ true → Sound radix p q x → x .base ≡ 1 → p ≡ fraction
 unfolding BaseIs
 fraction-is radix whole q x r h s e = absurd (false≢true h)
 fraction-is radix fraction q x r h s e = refl
@@ -104,7 +104,7 @@ fraction-is radix exponent q x r h s e = go (s .base-is)
     go (inl z) = absurd (omega arith)
     go (inr z) = absurd (omega arith)
 
-past-part : {r : Scan} {p : Part} {q : Seen} {x : Written} → r ≡ at p q x → Past r → past p ≡ true
+past-part : {r : Scan} {p : NumberPart} {q : Seen} {x : Written} → r ≡ at p q x → Past r → past p ≡ true
 past-part {p = p} {q} {x} e h = go (subst Past e h)
   where
     go : Past (at p q x) → past p ≡ true
@@ -118,7 +118,7 @@ module _ (k : Sep) (radix : ℕ) (two : 2 ≤ radix) (t : List ℕ) (start : Sca
       let before = finish-at (scan k radix t start) (found .is) .0 in
       let there = past-part before (point-scan k radix t start point) in
       let sound = ends-sound (subst (Ends radix) (found .is) ends) in
-      (found .seen, found .is ∙ ap (λ (p : Part). at p (found .seen) x) (fraction-is radix (found .part) (found .seen) x two there sound one))
+      (found .seen, found .is ∙ ap (λ (p : NumberPart). at p (found .seen) x) (fraction-is radix (found .part) (found .seen) x two there sound one))
 
 pub plain-fraction : (radix : ℕ) → 2 ≤ radix → (t : List ℕ) → List·Memᴰ 46 t → {x : Written} → plainReading radix t ≡ number x → x .base ≡ 1
     → (q : Seen) × (plainScan radix t ≡ at fraction q x)

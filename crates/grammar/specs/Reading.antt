@@ -6,7 +6,7 @@ use Prim.Native.Nat.{ℕ}
 use lib.Dec.{eqb}
 use lib.ListN.{length}
 use Rattle.grammar.specs.Meaning.{isSign, isMark, Written, Reading, number, unread, blank, withExp}
-use Rattle.grammar.specs.Automaton.{baseOf, Part, whole, exponent, Seen, nothing, sign, digit, Scan, at, refuse, Sep, Skip}
+use Rattle.grammar.specs.Automaton.{baseOf, NumberPart, whole, exponent, Seen, nothing, sign, digit, Scan, at, refuse, Sep, Skip}
 use Rattle.grammar.specs.Automaton.{Error, step, scan, ended, finish, onSign, onPoint, onUnderscore, onMark, onOther, readingOf}
 use Rattle.grammar.specs.Class.{classOf}
 use Rattle.grammar.specs.Run.{partOf}
@@ -18,14 +18,14 @@ unfoldable pub reading : Sep → ℕ → List ℕ → Scan → Reading
 reading k radix t s = readingOf (finish (scan k radix t s))
 
 -- a step by the byte's class
-unfoldable pub onClass : Class → Sep → ℕ → ℕ → Part → Seen → Written → Scan
+unfoldable pub onClass : Class → Sep → ℕ → ℕ → NumberPart → Seen → Written → Scan
 onClass Sign k radix b p q x = onSign (eqb b 45) p q x
 onClass Point k radix b p q x = onPoint p x
 onClass Underscore k radix b p q x = onUnderscore k p q x
 onClass (Mark base) k radix b p q x = onMark base p x
 onClass Other k radix b p q x = onOther radix b p x
 
-step-class : (k : Sep) (radix b : ℕ) (p : Part) (q : Seen) (x : Written) → step k radix b p q x ≡ onClass (classOf radix b) k radix b p q x
+step-class : (k : Sep) (radix b : ℕ) (p : NumberPart) (q : Seen) (x : Written) → step k radix b p q x ≡ onClass (classOf radix b) k radix b p q x
 unfolding step classOf onClass
 step-class k radix b p q x = go (isSign b) (eqb b 46) (eqb b 95) (isMark radix b)
   where
@@ -39,7 +39,7 @@ step-class k radix b p q x = go (isSign b) (eqb b 46) (eqb b 95) (isMark radix b
     go false false false false = refl
 
 -- one byte more; a refusal stays
-pub read-next : (k : Sep) (radix b : ℕ) (t : List ℕ) (p : Part) (q : Seen) (x : Written)
+pub read-next : (k : Sep) (radix b : ℕ) (t : List ℕ) (p : NumberPart) (q : Seen) (x : Written)
     → reading k radix (b ∷ t) (at p q x) ≡ reading k radix t (onClass (classOf radix b) k radix b p q x)
 unfolding reading scan
 read-next k radix b t p q x = ap (λ (s : Scan). readingOf (finish (scan k radix t s))) (step-class k radix b p q x)
@@ -71,12 +71,12 @@ unfoldable pub signFirst : List ℕ → Bool
 signFirst [] = false
 signFirst (b ∷ t) = isSign b
 
-under-same : (k : Sep) (p : Part) (x : Written) → onUnderscore k p nothing x ≡ onUnderscore k p sign x
+under-same : (k : Sep) (p : NumberPart) (x : Written) → onUnderscore k p nothing x ≡ onUnderscore k p sign x
 unfolding onUnderscore
 under-same Skip p x = refl
 under-same Error p x = refl
 
-step-same : (k : Sep) (radix b : ℕ) (p : Part) (x : Written) → isSign b ≡ false → step k radix b p nothing x ≡ step k radix b p sign x
+step-same : (k : Sep) (radix b : ℕ) (p : NumberPart) (x : Written) → isSign b ≡ false → step k radix b p nothing x ≡ step k radix b p sign x
 unfolding step
 step-same k radix b p x e = rw (e, under-same k p x)
 

@@ -11,7 +11,7 @@ use lib.ListN.{length, take, drop}
 use borrow.Author.Tests.{eqb-true}
 use Rattle.digits.specs.Meaning.{digitsOf, isUnd}
 use Rattle.grammar.specs.Meaning.{digitOf, Written, isRadix, withDigit}
-use Rattle.grammar.specs.Automaton.{isDigit, Part, whole, fraction, Seen, digit, at, Sep, Skip, Error, step, scan, onOther, onUnderscore}
+use Rattle.grammar.specs.Automaton.{isDigit, NumberPart, whole, fraction, Seen, digit, at, Sep, Skip, Error, step, scan, onOther, onUnderscore}
 use Rattle.grammar.specs.Class.{digit-plain}
 
 -- the digits of a run, as numbers
@@ -41,7 +41,7 @@ runLen skip radix [] = 0
 runLen skip radix (b ∷ t) = cond (isDigit radix b) (suc (runMore skip radix t)) 0
 
 -- the part before the mark
-abbrev pub partOf : Bool → Part
+abbrev pub partOf : Bool → NumberPart
 partOf false = whole
 partOf true = fraction
 

@@ -11,7 +11,7 @@ use lib.ListN.{length, drop, length-append, length-take, length-drop}
 use borrow.Author.Tests.{eqb-true}
 use Rattle.laws.specs.Nearest.{nearestEven}
 use Rattle.grammar.specs.Meaning.{expLimit, num, den, rawOf, isRadix, textLimit}
-use Rattle.grammar.specs.Automaton.{Part, whole, fraction, exponent}
+use Rattle.grammar.specs.Automaton.{NumberPart, whole, fraction, exponent}
 use Rattle.grammar.specs.Naturals.{natOf}
 use Rattle.grammar.specs.Accepted.{TenIs, sound-exp, sound-bases}
 use Rattle.laws.specs.Lists.{part}
@@ -99,7 +99,7 @@ module _ (t : List ℕ) (p : Parsed) (radix frac : ℕ) (h : Readable t p radix 
   unfolding writtenOf
   ten-power e = go (h .place) (h .sound .ten-is e)
     where
-      go : (a : Part) → TenIs a (p .base) (p .exp) → 10 ^ p .exp ≡ p .base ^ p .exp
+      go : (a : NumberPart) → TenIs a (p .base) (p .exp) → 10 ^ p .exp ≡ p .base ^ p .exp
       go whole z = ap (λ (k : ℕ). 10 ^ k) z ∙ sym (pow-zero (p .base)) ∙ sym (ap (λ (k : ℕ). p .base ^ k) z)
       go fraction z = ap (λ (k : ℕ). 10 ^ k) z ∙ sym (pow-zero (p .base)) ∙ sym (ap (λ (k : ℕ). p .base ^ k) z)
       go exponent z = ap (λ (b : ℕ). b ^ p .exp) (sym z)

@@ -14,7 +14,7 @@ use Rattle.format.specs.Meaning.{Sign, Outcome, refused, unless, faultOf, isWid
 use Rattle.format.specs.Fault.{fault-free, width-bounds}
 use Rattle.format.specs.Settle.{unless-fault, unless-none}
 use Rattle.grammar.specs.Meaning.{Reading, plainReading, literalBody, literalRadix, literalReading, rawOf, outcomeOf, isRadix, textLimit, readOf, literalOf}
-use Rattle.grammar.specs.Automaton.{Part, Seen}
+use Rattle.grammar.specs.Automaton.{NumberPart, Seen}
 use Rattle.grammar.specs.Accepted.{Sound, Says, says-numbered, prefix-legal}
 use Rattle.grammar.specs.Agrees.{plain-says, literal-says}
 use Rattle.scan.specs.Literal.{FindsLiteral}
@@ -126,7 +126,7 @@ literal-fine w f n = go (eqb (faultOf w f) 0) (leb n textLimit) refl refl
 
 -- ---- a number's places, as the cores want them
 pub record Readable (t : List ℕ) (p : Parsed) (radix frac : ℕ) : Type 0 where
-  pub place : Part
+  pub place : NumberPart
   pub seen : Seen
   pub sound : Sound radix place seen (writtenOf t p)
   pub ready : Ready t p

@@ -1,6 +1,6 @@
 -- `digits_exp::part::between` meets its contract, by whether there is something between.
 -- Assumes nothing.
-use Rattle.digits_exp.proofs.Spans.{part-none, part-some}
+use Rattle.digits_exp.proofs.Spans.{part-none}
 use borrow.Author.Needs.{needs}
 use Rattle.digits_exp.proofs.part.between.Statement.{statement}
 use Rattle.digits_exp.proofs.part.between.Tie as tie
@@ -21,7 +21,7 @@ head-requires-2 : tie.Need-head-requires-2
 head-requires-2 c κs = search needs
 
 returns-2 : tie.Need-returns-2
-returns-2 c = part-some _ _ _ (c .before .rest .ensures .bytes) (c .head2 .ensures .bytes)
+returns-2 c = rw (c .before .rest .ensures .bytes) at (c .head2 .ensures .bytes)
 
 pub between-spec : {M : Type 1} → statement M
 between-spec =
