@@ -82,6 +82,9 @@ backs =
     back binary32 false 1 149 0x00000001 ∷
     back binary32 false 3 150 0x00000002 ∷
     back binary32 false 1 150 0x00000000 ∷
+    -- up to 2^128 - 2^103 the largest number, which is 2^128 - 2^104, and from there on the infinity
+    back binary32 false 340282356779733661637539395458142568447 0 0x7f7fffff ∷
+    back binary32 true 340282356779733661637539395458142568448 0 0xff800000 ∷
     []
 
 module _ where

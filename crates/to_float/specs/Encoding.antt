@@ -46,8 +46,17 @@ size-unique n d h l u = le-antisymm (size-le n d u) (go (decLe d (size n)))
     go (yes k) = k
     go (no k) = absurd (omega (arith, lt-of-lt-of-le (size-lt n) (pow-mono {i = size n} {j = d - 1} (omega arith))))
 
--- ---- the significand of n's p leading digits, from its d digits
+-- no more than m where n / d is not (`nearest-least` is the other side)
+pub nearest-most : (n d m : ℕ) → 0 < d → n ≤ m * d → nearestEven n d ≤ m
+nearest-most n d m g h = go (decLe (nearestEven n d) m)
+  where
+    go : Dec (nearestEven n d ≤ m) → nearestEven n d ≤ m
+    go (yes l) = l
+    go (no l) =
+        let more : suc m * d ≤ nearestEven n d * d = mul-le-mul-right d (omega arith) in
+        absurd (omega (arith, nearest n d g .above))
 
+-- ---- the significand of n's p leading digits, from its d digits
 module _ (p n d : ℕ) (some : 1 ≤ p) (digits : Digits n d) where
   pub scaled-least : 2 ^ (p - 1) ≤ nearestEven (n * 2 ^ p) (2 ^ d)
   scaled-least =
@@ -55,15 +64,9 @@ module _ (p n d : ℕ) (some : 1 ≤ p) (digits : Digits n d) where
       (rw (double p some, double d (digits .some)) (omega (arith, mul-le-mul-right (2 ^ (p - 1)) (digits .low))))
 
   pub scaled-most : nearestEven (n * 2 ^ p) (2 ^ d) ≤ 2 ^ p
-  scaled-most = go (decLe (nearestEven (n * 2 ^ p) (2 ^ d)) (2 ^ p))
-    where
-      go : Dec (nearestEven (n * 2 ^ p) (2 ^ d) ≤ 2 ^ p) → nearestEven (n * 2 ^ p) (2 ^ d) ≤ 2 ^ p
-      go (yes h) = h
-      go (no h) =
-          let c = nearestEven (n * 2 ^ p) (2 ^ d) in
-          let more : suc (2 ^ p) * 2 ^ d ≤ c * 2 ^ d = mul-le-mul-right (2 ^ d) (omega arith) in
-          let less : suc n * 2 ^ p ≤ 2 ^ d * 2 ^ p = mul-le-mul-right (2 ^ p) (digits .high) in
-          absurd (omega (arith, nearest (n * 2 ^ p) (2 ^ d) (pow-pos d) .above, pow-pos d))
+  scaled-most =
+      nearest-most (n * 2 ^ p) (2 ^ d) (2 ^ p) (pow-pos d)
+      (omega (arith, mul-lt-mul-of-pos-right (digits .high) (pow-pos p)))
 
 -- ---- the place and the significand of the meaning, from the digits of n: the last digit of the significand stands so many steps up
 abbrev pub placeOf : ℕ → ℕ → ℕ → ℕ → ℕ

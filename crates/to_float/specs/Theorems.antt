@@ -4,16 +4,19 @@ use mathlib.Core.Path.{_≡_, refl, sym, ap, _∙_}
 use mathlib.Core.Bool.{Bool, true, false, cond}
 use Prim.Native.Nat.{ℕ, suc, _+_, _-_, _*_, _/_, _%_, _^_, _≤_, _<_}
 use native.Mathlib.Decide.{decLe}
-use native.Mathlib.Nat.{mul-pos, mul-lt-mul-of-pos-right}
+use native.Mathlib.Nat.{mul-pos, mul-le-mul-right, mul-lt-mul-of-pos-right, lt-of-lt-of-le, lt-of-le-of-lt}
+use native.Mathlib.Nat.{le-div-iff-mul-le, div-lt-iff-lt-mul}
 use native.Mathlib.Omega.{arith}
 use lib.Arith.{digits-div, digits-mod, digits-lt}
 use lib.Count.{leadingZeros}
-use lib.Dec.{ltb, leb}
+use lib.Dec.{leb}
+use lib.Ieee.{size}
+use lib.Ieee.Digits.{size-lt, size-reaches}
 use lib.IntN.{ℤ, pos, negsuc, natAbs}
 use lib.Pow.{pow-pos, pow-mono, pow-add}
 use lib.Signed.{ltZ}
-use borrow.Author.Tests.{lt-ltb, le-ltb, le-leb, lt-leb, ne-eqb}
-use Rattle.laws.specs.Nearest.{Nearest, nearest, nearestEven, nearest-exact, nearest-none}
+use borrow.Author.Tests.{lt-ltb, le-ltb, le-leb, lt-leb, eq-eqb, ne-eqb}
+use Rattle.laws.specs.Nearest.{Nearest, nearest, nearestEven, nearest-exact, nearest-none, nearest-least}
 use Rattle.laws.specs.Powers.{power-sub, double}
 use Rattle.laws.specs.Signed.{signed as kit}
 use Rattle.format.specs.declared.Manner.{Manner}
@@ -22,13 +25,14 @@ use Rattle.format.specs.Fault.{fault-free, width-bounds}
 use Rattle.format.specs.Settle.{unless-none}
 use Rattle.format.specs.Theorems.{InRange, lowest-out, highest-out, settle-fits}
 use Rattle.format.specs.Far.{limit-word}
-use Rattle.float.specs.Meaning.{Binary, bias, least, negative, biased, trailing, steps, finite, ofFields, patternValue, rawOfSteps}
+use Rattle.float.specs.Meaning.{Binary, bias, least, negative, biased, trailing, steps}
+use Rattle.float.specs.Meaning.{infinite, finite, ofFields, patternValue, rawOfSteps}
 use Rattle.float.specs.Parts.{binary}
 use Rattle.float.specs.Scaled.{scaled-few}
 use Rattle.from_float.specs.Meaning.{ofValue, fromFloatOf}
 use Rattle.to_float.specs.Meaning.{unit, significand, nearestSteps, roundedValue, joined, patternBy, patternOf}
-use Rattle.to_float.specs.Encoding.{Roomy, Digits, digits-of, unit-is, significand-is, steps-below, place-below, roomy-least}
-use Rattle.to_float.specs.Encoding.{scaled-least, scaled-most}
+use Rattle.to_float.specs.Encoding.{nearest-most, Roomy, Digits, digits-of, unit-is, significand-is, steps-below}
+use Rattle.to_float.specs.Encoding.{roomy-least}
 
 -- ---- "nearest, ties to even": n / 2^f in units of the significand's last place
 pub significand-nearest : (b : Binary) (n f : ℕ) → Nearest (n * 2 ^ least b) (2 ^ f * 2 ^ unit b n f) (significand b n f)
@@ -41,7 +45,7 @@ significand-zero b n f z =
     ap (λ (v : ℕ). nearestEven (v * 2 ^ least b) u) z ∙ nearest-none (0 * 2 ^ least b) u (omega (arith, mul-pos (pow-pos f) (pow-pos (unit b n f))))
 
 -- ---- the fields that `joined` puts together are found again
-module _ (p w : ℕ) (neg : Bool) (e t : ℕ) (low : t < 2 ^ (p - 1)) (most : e < 2 ^ w - 1) where
+module _ (p w : ℕ) (neg : Bool) (e t : ℕ) (low : t < 2 ^ (p - 1)) (most : e < 2 ^ w) where
   abbrev h : ℕ
   h = 2 ^ (p - 1)
 
@@ -62,91 +66,190 @@ module _ (p w : ℕ) (neg : Bool) (e t : ℕ) (low : t < 2 ^ (p - 1)) (most : e 
       go : (s : Bool) → upper s % 2 ^ w ≡ e
       go true =
           let one : 2 ^ w + e ≡ 1 * 2 ^ w + e = omega arith in
-          ap (λ (v : ℕ). v % 2 ^ w) one ∙ digits-mod 1 (omega arith)
+          ap (λ (v : ℕ). v % 2 ^ w) one ∙ digits-mod 1 most
       go false =
           let none : 0 + e ≡ 0 * 2 ^ w + e = omega arith in
-          ap (λ (v : ℕ). v % 2 ^ w) none ∙ digits-mod 0 (omega arith)
+          ap (λ (v : ℕ). v % 2 ^ w) none ∙ digits-mod 0 most
 
-  field-trailing : trailing (binary p w) (joined (binary p w) neg e t) ≡ t
+  pub field-trailing : trailing (binary p w) (joined (binary p w) neg e t) ≡ t
   field-trailing = ap (λ (v : ℕ). v % h) whole ∙ digits-mod (upper neg) low
 
   field-negative : negative (binary p w) (joined (binary p w) neg e t) ≡ neg
   field-negative = go neg
     where
       below : e * h + t < 2 ^ (w + (p - 1))
-      below = rw (pow-add 2 w (p - 1)) (digits-lt {m = 2 ^ w} (omega arith) low)
+      below = rw (pow-add 2 w (p - 1)) (digits-lt {m = 2 ^ w} most low)
 
       go : (s : Bool) → leb (2 ^ (w + (p - 1))) (cond s (2 ^ (w + (p - 1))) 0 + e * h + t) ≡ s
       go true = le-leb (2 ^ (w + (p - 1))) (2 ^ (w + (p - 1)) + e * h + t) (omega arith)
       go false = lt-leb (2 ^ (w + (p - 1))) (0 + e * h + t) (omega (arith, below))
 
-  pub joined-value : patternValue (binary p w) (joined (binary p w) neg e t) ≡ finite neg (steps (binary p w) e t)
-  unfolding patternValue ofFields
-  joined-value =
-      rw (field-negative, field-biased, field-trailing, ne-eqb e (2 ^ w - 1) (λ z. omega arith))
+  pub joined-value : patternValue (binary p w) (joined (binary p w) neg e t) ≡ ofFields (binary p w) neg e t
+  unfolding patternValue
+  joined-value = rw (field-negative, field-biased, field-trailing)
 
--- ---- the pattern stands for the rounded number, which is always finite here
-module _ (p w n f : ℕ) (room : Roomy p w) (word : n < 2 ^ 64) (frac : f ≤ 64) (neg : Bool) where
-  none-below : n ≡ 0 → nearestSteps (binary p w) n f < 2 ^ (least (binary p w) + bias (binary p w) + 1)
-  unfolding nearestSteps
-  none-below z =
-      rw (significand-zero (binary p w) n f z) (omega (arith, pow-pos (least (binary p w) + bias (binary p w) + 1)))
+-- ---- n / 2^f in units of the significand's last place: below 2^p, and at least 2^(p-1) where digits were cut off
+module _ (b : Binary) (n f : ℕ) where
+  pub units-below : n * 2 ^ least b < 2 ^ b .precision * (2 ^ f * 2 ^ unit b n f)
+  units-below =
+      let p = b .precision in
+      let u = unit b n f in
+      let x = n * 2 ^ least b / 2 ^ f in
+      let more : x < 2 ^ (p + u) = lt-of-lt-of-le (size-lt x) (pow-mono {i = size x} {j = p + u} (omega arith)) in
+      omega (arith, div-lt-iff-lt-mul (pow-pos f) .0 more, ap (λ (v : ℕ). v * 2 ^ f) (pow-add 2 p u))
 
-  value-zero : n ≡ 0 → patternValue (binary p w) (patternOf (binary p w) neg n f) ≡ finite neg (nearestSteps (binary p w) n f)
-  unfolding patternOf patternBy nearestSteps
-  value-zero z =
-      let u = unit (binary p w) n f in
-      let top = least (binary p w) + bias (binary p w) + 1 in
-      rw (significand-zero (binary p w) n f z, lt-ltb (0 * 2 ^ u) (2 ^ top) (omega (arith, pow-pos top)), lt-ltb 0 (2 ^ (p - 1)) (pow-pos (p - 1)))
-      (joined-value p w neg 0 0 (pow-pos (p - 1)) (omega (arith, pow-mono {i = 8} {j = w} (room .roomy))) ∙ ap (λ (v : ℕ). finite neg v) (omega arith))
+  pub units-least : 1 ≤ b .precision → 0 < unit b n f
+      → 2 ^ (b .precision - 1) * (2 ^ f * 2 ^ unit b n f) ≤ n * 2 ^ least b
+  units-least some cut =
+      let i = b .precision - 1 in
+      let u = unit b n f in
+      let x = n * 2 ^ least b / 2 ^ f in
+      let less : 2 ^ (i + u) ≤ x = size-reaches x (i + u) (omega arith) in
+      omega (arith, le-div-iff-mul-le (pow-pos f) .0 less, ap (λ (v : ℕ). v * 2 ^ f) (pow-add 2 i u))
 
-  value-some : (d : ℕ) → Digits n d → patternValue (binary p w) (patternOf (binary p w) neg n f) ≡ finite neg (nearestSteps (binary p w) n f)
-  unfolding patternOf patternBy nearestSteps
-  value-some d digits =
-      let some : 1 ≤ p = omega (arith, room .small .some) in
-      let c = significand (binary p w) n f in
-      let e = significand-is p w n f d room digits frac in
-      let at-least : 2 ^ (p - 1) ≤ c = rw e (scaled-least p n d some digits) in
-      let at-most : c ≤ 2 ^ p = rw e (scaled-most p n d some digits) in
-      let place = place-below p w n f d room digits frac in
-      let below : unit (binary p w) n f + 2 < 2 ^ w - 1 = omega (arith, unit-is p w n f d room digits frac) in
-      let top = 2 ^ (least (binary p w) + bias (binary p w) + 1) in
-      rw (lt-ltb (c * 2 ^ unit (binary p w) n f) top (steps-below p w n f d room digits frac), le-ltb c (2 ^ (p - 1)) at-least)
-      (by (unit (binary p w) n f) c some at-least at-most below (decLe (suc c) (2 ^ p)))
+  unit-some : 0 < 2 ^ f * 2 ^ unit b n f
+  unit-some = mul-pos (pow-pos f) (pow-pos (unit b n f))
+
+  pub significand-most : significand b n f ≤ 2 ^ b .precision
+  significand-most =
+      nearest-most (n * 2 ^ least b) (2 ^ f * 2 ^ unit b n f) (2 ^ b .precision) unit-some (omega (arith, units-below))
+
+  pub significand-least : 1 ≤ b .precision → 0 < unit b n f → 2 ^ (b .precision - 1) ≤ significand b n f
+  significand-least some cut =
+      nearest-least (n * 2 ^ least b) (2 ^ f * 2 ^ unit b n f) (2 ^ (b .precision - 1)) unit-some (units-least some cut)
+
+-- ---- E and T of a significand c in a place k: they stand for c x 2^k steps, and T is even where c is
+pub record Fields (p w : ℕ) (neg : Bool) (c k : ℕ) : Type 0 where
+  pub e : ℕ
+  pub t : ℕ
+  pub made : patternBy (binary p w) neg c k ≡ joined (binary p w) neg e t
+  pub low : t < 2 ^ (p - 1)
+  pub most : e < 2 ^ w - 1
+  pub same : steps (binary p w) e t ≡ c * 2 ^ k
+  pub even : c % 2 ≡ 0 → t % 2 ≡ 0
+
+-- the steps of 2^(emax + 1), past the largest number
+abbrev pub past : Binary → ℕ
+past b = 2 ^ (least b + bias b + 1)
+
+exponent-below : (i j : ℕ) → 2 ^ i < 2 ^ j → i < j
+exponent-below i j h = go (decLe j i)
+  where
+    go : Dec (j ≤ i) → i < j
+    go (yes l) = absurd (omega (arith, pow-mono {i = j} {j = i} l))
+    go (no l) = omega arith
+
+-- below them E is below the one of infinities
+module _ (p w : ℕ) (some : 2 ≤ p) (field : 2 ≤ w) where
+  field-end : 4 ≤ 2 ^ w
+  field-end = pow-mono {i = 2} {j = w} field
+
+  place-end : (i k : ℕ) → 2 ^ i * 2 ^ k < past (binary p w) → i + k < (p - 1) + (2 ^ w - 2)
+  place-end i k h =
+      let l = exponent-below (i + k) (least (binary p w) + bias (binary p w) + 1) (rw (pow-add 2 i k) h) in
+      omega (arith, l, double w (omega arith), field-end)
+
+module _ (p w : ℕ) (some : 2 ≤ p) (field : 2 ≤ w) (neg : Bool) (c k : ℕ)
+    (high : c ≤ 2 ^ p) (lead : 0 < k → 2 ^ (p - 1) ≤ c) (below : c * 2 ^ k < past (binary p w)) where
+  pub fields : Fields p w neg c k
+  unfolding patternBy
+  fields = go (decLe (2 ^ (p - 1)) c) (decLe (suc c) (2 ^ p))
     where
-      by : (u c : ℕ) → 1 ≤ p → 2 ^ (p - 1) ≤ c → c ≤ 2 ^ p → u + 2 < 2 ^ w - 1 → Dec (suc c ≤ 2 ^ p)
-          → patternValue (binary p w) (cond (ltb c (2 ^ p)) (joined (binary p w) neg (u + 1) (c - 2 ^ (p - 1))) (joined (binary p w) neg (u + 2) 0)) ≡ finite neg (c * 2 ^ u)
-      by u c some l m b (yes k) =
-          let e : 2 ^ (p - 1) + (c - 2 ^ (p - 1)) ≡ c = omega arith in
-          let j : (u + 1) - 1 ≡ u = omega arith in
-          rw (lt-ltb c (2 ^ p) k)
-          (joined-value p w neg (u + 1) (c - 2 ^ (p - 1)) (omega (arith, double p some)) (omega arith)
-          ∙ ap (λ (v : ℕ). finite neg v) (rw (ne-eqb (u + 1) 0 (λ z. omega arith), e, j) refl))
-      by u c some l m b (no k) =
-          let e : c ≡ 2 ^ p = omega arith in
-          let j : (u + 2) - 1 ≡ u + 1 = omega arith in
-          rw (le-ltb c (2 ^ p) (omega arith))
-          (joined-value p w neg (u + 2) 0 (pow-pos (p - 1)) (omega arith)
-          ∙ ap (λ (v : ℕ). finite neg v) (rw (ne-eqb (u + 2) 0 (λ z. omega arith), j) (carried u e)))
+      h : ℕ
+      h = 2 ^ (p - 1)
+
+      go : Dec (h ≤ c) → Dec (suc c ≤ 2 ^ p) → Fields p w neg c k
+      go (yes l) (yes m) =
+          let place = place-end p w some field (p - 1) k (lt-of-le-of-lt (mul-le-mul-right (2 ^ k) l) below) in
+          let e : h + (c - h) ≡ c = omega arith in
+          let j : (k + 1) - 1 ≡ k = omega arith in
+          record {
+            e = k + 1;
+            t = c - h;
+            made = rw (le-ltb c h l, lt-ltb c (2 ^ p) m);
+            low = omega (arith, double p (omega arith));
+            most = omega (arith, field-end p w some field);
+            same = rw (ne-eqb (k + 1) 0 (λ z. omega arith), e, j);
+            even = λ z. omega (arith, double (p - 1) (omega arith));
+          }
+      go (yes l) (no m) =
+          let r : 2 ^ p ≤ c = omega arith in
+          let place = place-end p w some field p k (lt-of-le-of-lt (mul-le-mul-right (2 ^ k) r) below) in
+          let e : c ≡ h * 2 = omega (arith, double p (omega arith)) in
+          let j : (k + 2) - 1 ≡ k + 1 = omega arith in
+          record {
+            e = k + 2;
+            t = 0;
+            made = rw (le-ltb c h l, le-ltb c (2 ^ p) r);
+            low = pow-pos (p - 1);
+            most = omega (arith, field-end p w some field);
+            same = rw (ne-eqb (k + 2) 0 (λ z. omega arith), e, j, pow-add 2 k 1) (omega arith);
+            even = λ z. omega arith;
+          }
+      go (no l) d =
+          let m : c < h = omega arith in
+          let z : k ≡ 0 = none (decLe 1 k) in
+          record {
+            e = 0;
+            t = c;
+            made = rw (lt-ltb c h m);
+            low = m;
+            most = omega (arith, field-end p w some field);
+            same = rw z (omega arith);
+            even = λ q. q;
+          }
         where
-          carried : (u : ℕ) → c ≡ 2 ^ p → (2 ^ (p - 1) + 0) * 2 ^ (u + 1) ≡ c * 2 ^ u
-          carried u e = rw (pow-add 2 u 1, e, double p some) (omega arith)
+          none : Dec (1 ≤ k) → k ≡ 0
+          none (yes q) = absurd (l (lead q))
+          none (no q) = omega arith
 
-  pub pattern-value : patternValue (binary p w) (patternOf (binary p w) neg n f) ≡ finite neg (nearestSteps (binary p w) n f)
-  pattern-value = go (decLe 1 n)
-    where
-      go : Dec (1 ≤ n) → patternValue (binary p w) (patternOf (binary p w) neg n f) ≡ finite neg (nearestSteps (binary p w) n f)
-      go (yes k) = value-some (64 - leadingZeros 64 n) (digits-of n k word)
-      go (no k) = value-zero (omega arith)
+-- ---- the pattern stands for the rounded number, for every n and F
+module _ (p w : ℕ) (some : 2 ≤ p) (field : 2 ≤ w) (neg : Bool) (n f : ℕ) where
+  abbrev b : Binary
+  b = binary p w
 
-  -- which is what the standard's rounding gives
-  pub pattern-rounded : patternValue (binary p w) (patternOf (binary p w) neg n f) ≡ roundedValue (binary p w) neg n f
+  pub fields-of : nearestSteps b n f < past b → Fields p w neg (significand b n f) (unit b n f)
+  unfolding nearestSteps
+  fields-of below =
+      fields p w some field neg (significand b n f) (unit b n f)
+      (significand-most b n f) (significand-least b n f (omega arith)) below
+
+  pub pattern-finite : nearestSteps b n f < past b → patternValue b (patternOf b neg n f) ≡ finite neg (nearestSteps b n f)
+  unfolding patternOf ofFields nearestSteps
+  pattern-finite below =
+      let r = fields-of below in
+      let value = joined-value p w neg (r .e) (r .t) (r .low) (omega (arith, r .most)) in
+      rw (lt-ltb (nearestSteps b n f) (past b) below, r .made, value)
+      (rw (ne-eqb (r .e) (2 ^ w - 1) (λ z. omega (arith, r .most)), r .same))
+
+  pub pattern-infinite : past b ≤ nearestSteps b n f → patternValue b (patternOf b neg n f) ≡ infinite neg
+  unfolding patternOf ofFields
+  pattern-infinite above =
+      let value = joined-value p w neg (2 ^ w - 1) 0 (pow-pos (p - 1)) (omega (arith, pow-pos w)) in
+      rw (le-ltb (nearestSteps b n f) (past b) above, value)
+      (rw (eq-eqb (2 ^ w - 1) (2 ^ w - 1) refl))
+
+  pub pattern-rounded : patternValue b (patternOf b neg n f) ≡ roundedValue b neg n f
   unfolding roundedValue
-  pattern-rounded = pattern-value ∙ sym (rw (lt-ltb (nearestSteps (binary p w) n f) (2 ^ (least (binary p w) + bias (binary p w) + 1)) (below (decLe 1 n))))
+  pattern-rounded = go (decLe (suc (nearestSteps b n f)) (past b))
     where
-      below : Dec (1 ≤ n) → nearestSteps (binary p w) n f < 2 ^ (least (binary p w) + bias (binary p w) + 1)
+      go : Dec (nearestSteps b n f < past b) → patternValue b (patternOf b neg n f) ≡ roundedValue b neg n f
+      go (yes h) = pattern-finite h ∙ sym (rw (lt-ltb (nearestSteps b n f) (past b) h))
+      go (no h) =
+          let m : past b ≤ nearestSteps b n f = omega arith in
+          pattern-infinite m ∙ sym (rw (le-ltb (nearestSteps b n f) (past b) m))
+
+-- a number of a fixed-point format is far below the largest number
+module _ (p w n f : ℕ) (room : Roomy p w) (word : n < 2 ^ 64) (frac : f ≤ 64) (neg : Bool) where
+  pub pattern-value : patternValue (binary p w) (patternOf (binary p w) neg n f) ≡ finite neg (nearestSteps (binary p w) n f)
+  unfolding nearestSteps
+  pattern-value = pattern-finite p w (room .small .some) (omega (arith, room .roomy)) neg n f (below (decLe 1 n))
+    where
+      below : Dec (1 ≤ n) → nearestSteps (binary p w) n f < past (binary p w)
       below (yes k) = steps-below p w n f (64 - leadingZeros 64 n) room (digits-of n k word) frac
-      below (no k) = none-below (omega arith)
+      below (no k) =
+          rw (significand-zero (binary p w) n f (omega arith))
+          (omega (arith, pow-pos (least (binary p w) + bias (binary p w) + 1)))
 
 -- ---- n has at most p significant bits: all others are zeros at its end
 pub record Short (p n : ℕ) : Type 0 where
@@ -214,7 +317,7 @@ in-word : (s : Sign) (w : ℕ) (a : ℤ) → w ≤ 64 → InRange s w a → natA
 in-word s w (pos n) h r = omega (kit, r .high, highest-out s w, limit-word s w false h)
 in-word s w (negsuc n) h r = omega (kit, r .low, lowest-out s w, limit-word s w true h)
 
-sign-back : (a : ℤ) → withSign (ltZ a (pos 0)) (natAbs a) ≡ a
+pub sign-back : (a : ℤ) → withSign (ltZ a (pos 0)) (natAbs a) ≡ a
 unfolding withSign
 sign-back (pos n) = rw (le-ltb n 0 (omega arith))
 sign-back (negsuc n) = refl
