@@ -246,7 +246,8 @@ at-back d {b} e =
     let r = reverse d in
     let q : reverse (drop 1 r) ++ (b ∷ []) ≡ d = sym (reverse-cons b (drop 1 r)) ∙ ap reverse (at-front r e) ∙ reverse-reverse d in
     let k : length (reverse (drop 1 r)) ≡ length d - 1 = omega (arith, length-reverse (drop 1 r), length-drop 1 r, length-reverse d) in
-    ap (λ (l : List ℕ). take (length d - 1) l ++ (b ∷ [])) (sym q) ∙ ap (λ (l : List ℕ). l ++ (b ∷ [])) (take-at (reverse (drop 1 r)) (b ∷ []) (length d - 1) k) ∙ q
+    ap (λ (l : List ℕ). take (length d - 1) l ++ (b ∷ [])) (sym q) ∙ ap (λ (l : List ℕ). l ++ (b ∷ [])) (take-at (reverse (drop 1 r)) (b ∷ []) (length d - 1) k)
+    ∙ q
 
 -- ---- the first and the last digit are the bytes at the ends of the view
 pub starts-first : (t : List ℕ) → StartsWithNo isUnd t → firstOf t ≡ firstOf (digitsOf t)

@@ -67,7 +67,8 @@ module _ (t : List ℕ) (p : Pair) (l : List ℕ) (x : ℕ) {r : ℕ} (q : r ≡
         is = record { one = s .one; two = s .two };
         same =
             sym (append-assoc (spanOf t (p .first)) (spanOf t (p .second)) (zeros r))
-            ∙ ap (λ (n : ℕ). (spanOf t (p .first) ++ spanOf t (p .second)) ++ zeros n) (only-if (spanOf t (p .first)) (spanOf t (p .second)) x (s .one .count) (s .two .count) q)
+            ∙ ap (λ (n : ℕ). (spanOf t (p .first) ++ spanOf t (p .second)) ++ zeros n)
+            (only-if (spanOf t (p .first)) (spanOf t (p .second)) x (s .one .count) (s .two .count) q)
             ∙ int-zeros (spanOf t (p .first) ++ spanOf t (p .second)) l x (s .same);
       }
 
@@ -79,6 +80,7 @@ module _ (t : List ℕ) (p : Pair) (l : List ℕ) (x : ℕ) {r : ℕ} (q : r ≡
         is = record { one = s .one; two = s .two };
         same =
             ap (λ (k : List ℕ). zeros r ++ (spanOf t (p .first) ++ k)) (append-nil (spanOf t (p .second)))
-            ∙ ap (λ (n : ℕ). zeros n ++ (spanOf t (p .first) ++ spanOf t (p .second))) (only-if (spanOf t (p .first)) (spanOf t (p .second)) x (s .one .count) (s .two .count) q)
+            ∙ ap (λ (n : ℕ). zeros n ++ (spanOf t (p .first) ++ spanOf t (p .second)))
+            (only-if (spanOf t (p .first)) (spanOf t (p .second)) x (s .one .count) (s .two .count) q)
             ∙ frac-zeros (spanOf t (p .first) ++ spanOf t (p .second)) l x (s .same);
       }

@@ -84,7 +84,12 @@ module _ (t : List ℕ) (x : DigitsExp) (is : IsExp t x) where
       module _ (w : x .part2 .digits ≤ 0) where
         -- a zero behind
         pub first-behind : 0 < x .«trailing_zeros»
-            → SplitFirst t x (Is 48 (record { «leading_zeros» = x .«leading_zeros»; part1 = x .part1; part2 = x .part2; «trailing_zeros» = x .«trailing_zeros» - 1 }))
+            → SplitFirst t x (Is 48 (record {
+              «leading_zeros» = x .«leading_zeros»;
+              part1 = x .part1;
+              part2 = x .part2;
+              «trailing_zeros» = x .«trailing_zeros» - 1;
+            }))
         unfolding firstDigits RestIs digitsExpOf
         first-behind h =
             let n = no-zeros (x .«leading_zeros») z in

@@ -20,7 +20,8 @@ use Rattle.digits_exp.specs.declared.DigitsExp.{DigitsExp}
 use Rattle.digits_exp.specs.declared.IntFrac.{IntFrac}
 use Rattle.digits.specs.Meaning.{isZero, dropWhile, dropBack}
 use Rattle.digits_exp.specs.Zeros.{zeros-length, take-zeros, drop-zeros, while-append-none, back-append-none, zeros-while, zeros-back}
-use Rattle.digits_exp.specs.Meaning.{spanOf, IsSpan, Stands, StandsExp, digitsExpOf, rightInt, rightFrac, leftInt, leftFrac, movedInt, movedFrac, StandsDropped}
+use Rattle.digits_exp.specs.Meaning.{spanOf, IsSpan, Stands, StandsExp, digitsExpOf, rightInt}
+use Rattle.digits_exp.specs.Meaning.{rightFrac, leftInt, leftFrac, movedInt, movedFrac, StandsDropped}
 use Rattle.digits_exp.specs.Inner.{emptySpan, emptyExp, Moved}
 use Rattle.digits_exp.proofs.Spans.{empty-stands}
 
@@ -92,7 +93,11 @@ unfolding digitsExpOf
 nothing-stands t q =
     let n = empty-stands t {r = emptySpan} refl in
     subst (λ (x : DigitsExp). StandsExp t x []) (sym q)
-    (record { is = record { one = n .is; two = n .is }; same = ap (λ (l : List ℕ). l ++ (spanOf t emptySpan ++ [])) (n .same) ∙ append-nil (spanOf t emptySpan) ∙ n .same })
+    (record {
+      is = record { one = n .is; two = n .is };
+      same = ap (λ (l : List ℕ). l ++ (spanOf t emptySpan ++ [])) (n .same) ∙ append-nil (spanOf t emptySpan)
+          ∙ n .same;
+    })
 
 module _ (t : List ℕ) (a b : Span) (n : ℕ) where
   -- all digits of the fraction go to the integer
@@ -110,7 +115,8 @@ module _ (t : List ℕ) (a b : Span) (n : ℕ) where
       }
 
   -- n digits go, m, and some stay, l
-  pub right-moved-some : {m l e : Span} {x y : DigitsExp} → IsSpan t b → n < b .digits → Stands t m (take n (spanOf t b)) → Stands t l (drop n (spanOf t b)) → e ≡ emptySpan
+  pub right-moved-some : {m l e : Span} {x y : DigitsExp} → IsSpan t b → n < b .digits → Stands t m (take n (spanOf t b)) → Stands t l (drop n (spanOf t b))
+      → e ≡ emptySpan
       → StandsExp t x (dropWhile isZero ((spanOf t a ++ spanOf t m) ++ zeros 0)) → StandsExp t y (dropBack isZero (zeros 0 ++ (spanOf t e ++ spanOf t l)))
       → Moved t (record { int = x; frac = y }) (rightInt n) (rightFrac n) a b
   right-moved-some {m} {l} {e} ib h sm sl q sx sy =
@@ -172,9 +178,11 @@ module _ (i f : List ℕ) where
   moved-right (pos n) e = (refl, refl)
   moved-right (negsuc m) e = let h = ltZ-false (negsuc m) (pos 0) e in absurd (omega signed)
 
-  module _ (t : List ℕ) (z : ℤ) {a b : Span} {n : ℕ} {r : IntFrac} (fits : SFits w32 z) (sa : Stands t a i) (sb : Stands t b f) (en : n ≡ natAbs (toZ w32 (ofZ w32 z))) where
+  module _ (t : List ℕ) (z : ℤ) {a b : Span} {n : ℕ} {r : IntFrac} (fits : SFits w32 z) (sa : Stands t a i) (sb : Stands t b f)
+      (en : n ≡ natAbs (toZ w32 (ofZ w32 z))) where
     -- any way of moving, from the spans to their digits
-    by-way : (int frac : ℕ → List ℕ → List ℕ → List ℕ) {d g : List ℕ} → int (natAbs z) i f ≡ d → frac (natAbs z) i f ≡ g → Moved t r (int n) (frac n) a b → StandsDropped t r d g
+    by-way : (int frac : ℕ → List ℕ → List ℕ → List ℕ) {d g : List ℕ} → int (natAbs z) i f ≡ d → frac (natAbs z) i f ≡ g → Moved t r (int n) (frac n) a b
+        → StandsDropped t r d g
     by-way int frac p q s =
         let count-is : n ≡ natAbs z = en ∙ ap natAbs (toZ-ofZ fits) in
         record {

@@ -8,7 +8,8 @@ use lib.ListN.{length, take, drop, length-take, length-drop, length-append, take
 use lib.Seq.{take-nil, take-take, drop-drop}
 use Rattle.laws.specs.Lists.{part}
 use Rattle.digits_exp.specs.declared.Span.{Span}
-use Rattle.digits.specs.Meaning.{isUnd, isZero, digitsOf, takeWhile, dropWhile, dropBack, trimmed, undsFront, undsBack, StartsWithNo, IsView, headOf, tailOf, leadingZeros, trailingZeros}
+use Rattle.digits.specs.Meaning.{isUnd, isZero, digitsOf, takeWhile, dropWhile, dropBack, trimmed, undsFront}
+use Rattle.digits.specs.Meaning.{undsBack, StartsWithNo, IsView, headOf, tailOf, leadingZeros, trailingZeros}
 use Rattle.digits.specs.Runs.{while-length, middle, take-head, drop-head, head-length}
 use Rattle.digits.specs.Theorems.{new-whole, trimmed-view, trimmed-digits, head-digits, tail-digits}
 use Rattle.digits.specs.Theorems.{leading-within, trailing-within, leading-left, trailing-left}

@@ -1,5 +1,5 @@
--- What the second layer stands for: document 01, module 1. "A second layer is: some leading zeros, two views, some trailing zeros."
--- Assumes nothing.
+-- What the second layer stands for: document 01, module 1. "A second layer is: some leading zeros, two
+-- views, some trailing zeros." Assumes nothing.
 use mathlib.Core.Path.{_≡_}
 use mathlib.Core.List.{List, [], _∷_, _++_}
 use Prim.Native.Nat.{ℕ, suc}
@@ -29,7 +29,8 @@ pub record Stands (text : List ℕ) (s : Span) (d : List ℕ) : Type 0 where
 
 -- the digits of the whole
 unfoldable pub digitsExpOf : List ℕ → DigitsExp → List ℕ
-digitsExpOf text x = zeros (x .«leading_zeros») ++ (spanOf text (x .part1) ++ (spanOf text (x .part2) ++ zeros (x .«trailing_zeros»)))
+digitsExpOf text x =
+    zeros (x .«leading_zeros») ++ (spanOf text (x .part1) ++ (spanOf text (x .part2) ++ zeros (x .«trailing_zeros»)))
 
 pub record IsExp (text : List ℕ) (x : DigitsExp) : Type 0 where
   pub one : IsSpan text (x .part1)
@@ -39,8 +40,9 @@ pub record StandsExp (text : List ℕ) (x : DigitsExp) (d : List ℕ) : Type 0 w
   pub is : IsExp text x
   pub same : digitsExpOf text x ≡ d
 
--- "A decimal exponent moves digits between integer and fraction." Of the digits i and f, n places to the right: the fraction, with n zeros behind,
--- gives its first n digits to the integer. n places to the left: the integer, with n zeros in front, gives its last n digits to the fraction.
+-- "A decimal exponent moves digits between integer and fraction." Of the digits i and f, n places to the right: the
+-- fraction, with n zeros behind, gives its first n digits to the integer. n places to the left: the integer, with n
+-- zeros in front, gives its last n digits to the fraction.
 unfoldable pub rightInt : ℕ → List ℕ → List ℕ → List ℕ
 rightInt n i f = i ++ take n (f ++ zeros n)
 
@@ -61,7 +63,8 @@ unfoldable pub movedFrac : ℤ → List ℕ → List ℕ → List ℕ
 movedFrac (pos n) i f = rightFrac n i f
 movedFrac (negsuc m) i f = leftFrac (suc m) i f
 
--- "Then leading zeros of the integer and trailing zeros of the fraction are dropped." An answer stands for the digits i and f, then.
+-- "Then leading zeros of the integer and trailing zeros of the fraction are dropped."
+-- An answer stands for the digits i and f, then.
 pub record StandsDropped (text : List ℕ) (x : IntFrac) (i f : List ℕ) : Type 0 where
   pub int : StandsExp text (x .int) (dropWhile isZero i)
   pub frac : StandsExp text (x .frac) (dropBack isZero f)

@@ -1,5 +1,5 @@
-// The second layer (S's `DigitsExp`): some leading zeros, two views, some trailing zeros. A view stands here as two places of the lent text with its
-// digit count. Zeros are counts: no exponent is ever written out.
+// The second layer (S's `DigitsExp`): some leading zeros, two views, some trailing zeros. A view stands here as two
+// places of the lent text with its digit count. Zeros are counts: no exponent is ever written out.
 ghost use Prim.Native.Nat.{_^_, _<_};
 ghost use lib.ListN.{length};
 ghost use Rattle.digits_exp.specs.Meaning.{IsExp, digitsExpOf};
@@ -64,8 +64,8 @@ pub fn view_of(text: &[u8], s: Span) -> &[u8]
     part::between(text, from, to)
 }
 
-// The digits of integer and fraction after the exponent has moved the point, without the zeros in front of the one and behind the other. The integer is
-// the run of the text from `int_from` up to `int_to`, and so the fraction.
+// The digits of integer and fraction after the exponent has moved the point, without the zeros in front of the one and
+// behind the other. The integer is the run of the text from `int_from` up to `int_to`, and so the fraction.
 pub fn new_int_frac(
     text: &[u8],
     int_from: usize,

@@ -14,10 +14,12 @@ use super::Pair;
 use super::Span;
 use super::view;
 
-// Two views without the zeros in front: where the first is all zeros, the second takes its place (S's `new2`, its first half).
+// Two views without the zeros in front: where the first is all zeros, the second
+// takes its place (S's `new2`, its first half).
 fn strip_front(text: &[u8], a: Span, b: Span) -> Pair
     requires { ⌜ IsSpan (now text) a × IsSpan (now text) b ⌝ }
-    ensures { λ r. ⌜ StandsPair (now (text .entry)) r (dropWhile isZero (spanOf (now (text .entry)) a ++ spanOf (now (text .entry)) b)) ⌝ }
+    ensures { λ r. ⌜ StandsPair (now (text .entry)) r
+        (dropWhile isZero (spanOf (now (text .entry)) a ++ spanOf (now (text .entry)) b)) ⌝ }
 {
     let first = view::without_leading_zeros(text, a);
     if first.digits == 0 {
@@ -33,7 +35,8 @@ fn strip_front(text: &[u8], a: Span, b: Span) -> Pair
 // The same from behind (S's `new2`, its second half).
 fn strip_back(text: &[u8], a: Span, b: Span) -> Pair
     requires { ⌜ IsSpan (now text) a × IsSpan (now text) b ⌝ }
-    ensures { λ r. ⌜ StandsPair (now (text .entry)) r (dropBack isZero (spanOf (now (text .entry)) a ++ spanOf (now (text .entry)) b)) ⌝ }
+    ensures { λ r. ⌜ StandsPair (now (text .entry)) r
+        (dropBack isZero (spanOf (now (text .entry)) a ++ spanOf (now (text .entry)) b)) ⌝ }
 {
     let second = view::without_trailing_zeros(text, b);
     if second.digits == 0 {
@@ -49,7 +52,8 @@ fn strip_back(text: &[u8], a: Span, b: Span) -> Pair
 // Two views and `extra` zeros behind, without the zeros in front: the digits of an integer.
 fn new_int(text: &[u8], a: Span, b: Span, extra: usize) -> DigitsExp
     requires { ⌜ IsSpan (now text) a × IsSpan (now text) b ⌝ }
-    ensures { λ r. ⌜ StandsExp (now (text .entry)) r (dropWhile isZero ((spanOf (now (text .entry)) a ++ spanOf (now (text .entry)) b) ++ zeros extra)) ⌝ }
+    ensures { λ r. ⌜ StandsExp (now (text .entry)) r
+        (dropWhile isZero ((spanOf (now (text .entry)) a ++ spanOf (now (text .entry)) b) ++ zeros extra)) ⌝ }
 {
     let s = strip_front(text, a, b);
     let part1 = s.first;
@@ -66,7 +70,8 @@ fn new_int(text: &[u8], a: Span, b: Span, extra: usize) -> DigitsExp
 // `extra` zeros in front and two views, without the zeros behind: the digits of a fraction.
 fn new_frac(text: &[u8], extra: usize, a: Span, b: Span) -> DigitsExp
     requires { ⌜ IsSpan (now text) a × IsSpan (now text) b ⌝ }
-    ensures { λ r. ⌜ StandsExp (now (text .entry)) r (dropBack isZero (zeros extra ++ (spanOf (now (text .entry)) a ++ spanOf (now (text .entry)) b))) ⌝ }
+    ensures { λ r. ⌜ StandsExp (now (text .entry)) r
+        (dropBack isZero (zeros extra ++ (spanOf (now (text .entry)) a ++ spanOf (now (text .entry)) b))) ⌝ }
 {
     let s = strip_back(text, a, b);
     let part1 = s.first;
@@ -115,7 +120,8 @@ pub(crate) fn places(exp: i32) -> usize
     exp as usize
 }
 
-// The point n places to the right: the first n digits of the fraction go to the integer, with zeros behind them where there are fewer.
+// The point n places to the right: the first n digits of the fraction go to the integer,
+// with zeros behind them where there are fewer.
 pub(crate) fn move_right(text: &[u8], int: Span, frac: Span, n: usize) -> IntFrac
     requires { ⌜ IsSpan (now text) int × IsSpan (now text) frac ⌝ }
     ensures { λ r. ⌜ Moved (now (text .entry)) r (rightInt n) (rightFrac n) int frac ⌝ }
@@ -135,7 +141,8 @@ pub(crate) fn move_right(text: &[u8], int: Span, frac: Span, n: usize) -> IntFra
     }
 }
 
-// The point n places to the left: the last n digits of the integer go to the fraction, with zeros in front of them where there are fewer.
+// The point n places to the left: the last n digits of the integer go to the fraction, with
+// zeros in front of them where there are fewer.
 pub(crate) fn move_left(text: &[u8], int: Span, frac: Span, n: usize) -> IntFrac
     requires { ⌜ IsSpan (now text) int × IsSpan (now text) frac ⌝ }
     ensures { λ r. ⌜ Moved (now (text .entry)) r (leftInt n) (leftFrac n) int frac ⌝ }

@@ -1,5 +1,6 @@
--- From a format to a pattern: document 01, module 5, "To and from f32 and f64 patterns, carried as u32 and u64 integers: nearest, ties to even"; "0
--- gives the positive zero". The refusals are the format's alone. (What a pattern stands for is said by `float`.) Assumes nothing.
+-- From a format to a pattern: document 01, module 5, "To and from f32 and f64 patterns, carried as u32 and u64
+-- integers: nearest, ties to even"; "0 gives the positive zero". The refusals are the format's alone. (What a pattern
+-- stands for is said by `float`.) Assumes nothing.
 use mathlib.Core.Bool.{Bool, false, cond}
 use Prim.Native.Nat.{ℕ, _+_, _-_, _*_, _/_, _^_}
 use lib.Dec.{ltb}
@@ -10,8 +11,9 @@ use Rattle.laws.specs.Nearest.{nearestEven}
 use Rattle.format.specs.Meaning.{Outcome, done, faultOf, unless}
 use Rattle.float.specs.Meaning.{Binary, bias, least, Value, infinite, finite}
 
--- ---- the number nearest to n / 2^F: that is n x 2^least / 2^F steps. The significand keeps the p leading digits of that, so it is counted in
--- `unit b n f` more places than the steps, or in steps where there are no more than p digits; "nearest, ties to even"
+-- ---- the number nearest to n / 2^F: that is n x 2^least / 2^F steps. The significand keeps the p leading
+-- digits of that, so it is counted in `unit b n f` more places than the steps, or in steps where there are
+-- no more than p digits; "nearest, ties to even"
 abbrev pub unit : Binary → ℕ → ℕ → ℕ
 unit b n f = size (n * 2 ^ least b / 2 ^ f) - b .precision
 
@@ -24,13 +26,15 @@ nearestSteps b n f = significand b n f * 2 ^ unit b n f
 
 -- "rounds to infinity": what would be 2^(emax + 1) or more
 unfoldable pub roundedValue : Binary → Bool → ℕ → ℕ → Value
-roundedValue b neg n f = cond (ltb (nearestSteps b n f) (2 ^ (least b + bias b + 1))) (finite neg (nearestSteps b n f)) (infinite neg)
+roundedValue b neg n f =
+    cond (ltb (nearestSteps b n f) (2 ^ (least b + bias b + 1))) (finite neg (nearestSteps b n f)) (infinite neg)
 
 -- S, E and T as one number
 abbrev pub joined : Binary → Bool → ℕ → ℕ → ℕ
 joined b neg e t = cond neg (2 ^ (b .field + (b .precision - 1))) 0 + e * 2 ^ (b .precision - 1) + t
 
--- a significand c in a place k: below 2^(p-1) there is no leading one, so E = 0 (and k = 0); at 2^p rounding has carried, and it is 2^(p-1) in the next place
+-- a significand c in a place k: below 2^(p-1) there is no leading one, so E = 0 (and k = 0); at 2^p rounding
+-- has carried, and it is 2^(p-1) in the next place
 unfoldable pub patternBy : Binary → Bool → ℕ → ℕ → ℕ
 patternBy b neg c k =
     cond (ltb c (2 ^ (b .precision - 1)))

@@ -1,4 +1,5 @@
-// The pattern of a number of a fixed-point format, as one number: such a number is 0 or normal, so nothing is subnormal and nothing overflows.
+// The pattern of a number of a fixed-point format, as one number: such a number is 0 or normal,
+// so nothing is subnormal and nothing overflows.
 ghost use mathlib.Core.Path.{_≡_};
 ghost use Prim.Native.Nat.{_*_, _^_, _≤_};
 ghost use Rattle.laws.specs.Nearest.{nearestEven};
@@ -21,8 +22,8 @@ pub(crate) fn encode(neg: bool, size: u64, frac: u32, precision: u32, field: u32
     magnitude
 }
 
-// The significand is added to its place. Its leading one counts as one more in the exponent, so the place is that much lower; and where rounding
-// carries to 2^p, the carry goes into the exponent by itself.
+// The significand is added to its place. Its leading one counts as one more in the exponent, so the place is that much
+// lower; and where rounding carries to 2^p, the carry goes into the exponent by itself.
 fn of_magnitude(size: u64, frac: u32, precision: u32, field: u32) -> u64
     requires { ⌜ Roomy precision field × (frac ≤ 64) ⌝ }
     ensures { λ r. ⌜ Encoded precision field size frac r ⌝ }

@@ -11,7 +11,8 @@ use Rattle.digits.proofs.leading_zeros.Statement.{statement}
 use Rattle.digits.proofs.leading_zeros.Tie as tie
 
 abbrev Inv-loop : tie.InvT-loop
-Inv-loop view zeros₀ i₀ zeros i = (i ≤ length view) × (zeros ≤ i) × (zeros + length (takeWhile isZero (digitsOf (drop i view))) ≡ length (takeWhile isZero (digitsOf view)))
+Inv-loop view zeros₀ i₀ zeros i =
+    (i ≤ length view) × (zeros ≤ i) × (zeros + length (takeWhile isZero (digitsOf (drop i view))) ≡ length (takeWhile isZero (digitsOf view)))
 
 abbrev μ-loop : tie.MeasureT-loop
 μ-loop view zeros₀ i₀ zeros i = length view - i

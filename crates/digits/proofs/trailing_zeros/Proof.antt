@@ -13,7 +13,9 @@ use Rattle.digits.proofs.trailing_zeros.Statement.{statement}
 use Rattle.digits.proofs.trailing_zeros.Tie as tie
 
 abbrev Inv-loop : tie.InvT-loop
-Inv-loop view zeros₀ end₀ zeros end = (end ≤ length view) × (zeros ≤ length view - end) × (zeros + length (takeWhile isZero (digitsOf (reverse (take end view)))) ≡ length (takeWhile isZero (digitsOf (reverse view))))
+Inv-loop view zeros₀ end₀ zeros end =
+    (end ≤ length view) × (zeros ≤ length view - end)
+    × (zeros + length (takeWhile isZero (digitsOf (reverse (take end view)))) ≡ length (takeWhile isZero (digitsOf (reverse view))))
 
 abbrev μ-loop : tie.MeasureT-loop
 μ-loop view zeros₀ end₀ zeros end = end

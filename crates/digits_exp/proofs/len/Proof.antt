@@ -6,19 +6,29 @@ use Rattle.digits_exp.proofs.len.Tie as tie
 
 add-result : tie.Need-add-result
 add-result c =
-    record { fits = len-fits (c .before .before .before .before .args .text .now) (c .before .before .before .before .args .d) (c .before .before .before .before .pre .0) (c .before .before .before .before .pre .1) .0 }
+    record {
+      fits = len-fits (c .before .before .before .before .args .text .now) (c .before .before .before .before .args .d)
+          (c .before .before .before .before .pre .0) (c .before .before .before .before .pre .1) .0;
+    }
 
 add-result-2 : tie.Need-add-result-2
 add-result-2 c =
-    record { fits = len-fits (c .before .before .before .before .before .args .text .now) (c .before .before .before .before .before .args .d) (c .before .before .before .before .before .pre .0) (c .before .before .before .before .before .pre .1) .1 }
+    record {
+      fits = len-fits (c .before .before .before .before .before .args .text .now) (c .before .before .before .before .before .args .d)
+          (c .before .before .before .before .before .pre .0) (c .before .before .before .before .before .pre .1) .1;
+    }
 
 add-result-3 : tie.Need-add-result-3
 add-result-3 c =
-    record { fits = len-fits (c .before .before .before .before .before .before .args .text .now) (c .before .before .before .before .before .before .args .d) (c .before .before .before .before .before .before .pre .0) (c .before .before .before .before .before .before .pre .1) .2 }
+    record {
+      fits = len-fits (c .before .before .before .before .before .before .args .text .now) (c .before .before .before .before .before .before .args .d)
+          (c .before .before .before .before .before .before .pre .0) (c .before .before .before .before .before .before .pre .1) .2;
+    }
 
 returns : tie.Need-returns
 returns c =
-    len-is (c .before .before .before .before .before .before .args .text .now) (c .before .before .before .before .before .before .args .d) (c .before .before .before .before .before .before .pre .0)
+    len-is (c .before .before .before .before .before .before .args .text .now) (c .before .before .before .before .before .before .args .d)
+    (c .before .before .before .before .before .before .pre .0)
 
 pub len-spec : {M : Type 1} → statement M
 len-spec = tie.close (tie.spec add-result add-result-2 add-result-3 returns)

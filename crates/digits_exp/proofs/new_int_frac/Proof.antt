@@ -19,14 +19,16 @@ move-left-requires c κs = search needs
 
 returns : tie.Need-returns
 returns c =
-    goes-left _ _ _ _ (c .before .before .before .before .before .before .fits .exp) (c .before .before .before .before .trim .ensures) (c .before .before .before .trim2 .ensures) (c .before .before .places .ensures) (c .before .if1 .taken) (c .move-left .ensures)
+    goes-left _ _ _ _ (c .before .before .before .before .before .before .fits .exp) (c .before .before .before .before .trim .ensures)
+    (c .before .before .before .trim2 .ensures) (c .before .before .places .ensures) (c .before .if1 .taken) (c .move-left .ensures)
 
 move-right-requires : tie.Need-move-right-requires
 move-right-requires c κs = search needs
 
 returns-2 : tie.Need-returns-2
 returns-2 c =
-    goes-right _ _ _ _ (c .before .before .before .before .before .before .fits .exp) (c .before .before .before .before .trim .ensures) (c .before .before .before .trim2 .ensures) (c .before .before .places .ensures) (c .before .if1 .left) (c .move-right .ensures)
+    goes-right _ _ _ _ (c .before .before .before .before .before .before .fits .exp) (c .before .before .before .before .trim .ensures)
+    (c .before .before .before .trim2 .ensures) (c .before .before .places .ensures) (c .before .if1 .left) (c .move-right .ensures)
 
 pub new-int-frac-spec : {M : Type 1} → statement M
 new-int-frac-spec =

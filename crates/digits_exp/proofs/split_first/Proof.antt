@@ -19,7 +19,8 @@ skip-requires c κs = search needs
 
 returns-2 : tie.Need-returns-2
 returns-2 c =
-    first-one _ _ (c .before .before .before .before .before .before .before .before .pre) (c .before .before .before .before .before .if1 .left) (c .before .first-digit .ensures) (c .skip .ensures)
+    first-one _ _ (c .before .before .before .before .before .before .before .before .pre) (c .before .before .before .before .before .if1 .left)
+    (c .before .first-digit .ensures) (c .skip .ensures)
 
 first-digit-requires-2 : tie.Need-first-digit-requires-2
 first-digit-requires-2 c κs = search needs
@@ -29,18 +30,24 @@ skip-requires-2 c κs = search needs
 
 returns-3 : tie.Need-returns-3
 returns-3 c =
-    first-two _ _ (c .before .before .before .before .before .before .before .before .before .before .before .pre) (c .before .before .before .before .before .before .before .before .if1 .left) (c .before .before .before .before .before .if2 .left) (c .before .first-digit2 .ensures) (c .skip2 .ensures)
+    first-two _ _ (c .before .before .before .before .before .before .before .before .before .before .before .pre)
+    (c .before .before .before .before .before .before .before .before .if1 .left) (c .before .before .before .before .before .if2 .left)
+    (c .before .first-digit2 .ensures) (c .skip2 .ensures)
 
 sub-d-2 : tie.Need-sub-d-2
 sub-d-2 c = search needs
 
 returns-4 : tie.Need-returns-4
 returns-4 c =
-    first-behind _ _ (c .before .before .before .before .before .before .before .before .before .before .before .before .pre) (c .before .before .before .before .before .before .before .before .before .if1 .left) (c .before .before .before .before .before .before .if2 .left) (c .before .before .before .if3 .left) (c .before .if4 .taken)
+    first-behind _ _ (c .before .before .before .before .before .before .before .before .before .before .before .before .pre)
+    (c .before .before .before .before .before .before .before .before .before .if1 .left) (c .before .before .before .before .before .before .if2 .left)
+    (c .before .before .before .if3 .left) (c .before .if4 .taken)
 
 returns-5 : tie.Need-returns-5
 returns-5 c =
-    first-none _ _ (c .before .before .before .before .before .before .before .before .before .before .before .pre) (c .before .before .before .before .before .before .before .before .if1 .left) (c .before .before .before .before .before .if2 .left) (c .before .before .if3 .left) (c .if4 .left)
+    first-none _ _ (c .before .before .before .before .before .before .before .before .before .before .before .pre)
+    (c .before .before .before .before .before .before .before .before .if1 .left) (c .before .before .before .before .before .if2 .left)
+    (c .before .before .if3 .left) (c .if4 .left)
 
 pub split-first-spec : {M : Type 1} → statement M
 split-first-spec =

@@ -40,7 +40,8 @@ new-frac-requires-2 c κs = search needs
 
 returns-2 : tie.Need-returns-2
 returns-2 c =
-    left-moved-some _ _ _ _ (c .before .before .before .before .before .before .before .pre .0) (omega arith) (c .before .before .before .before .keep .ensures) (c .before .before .before .skip .ensures) (c .before .before .empty .ensures) (c .before .new-int .ensures) (c .new-frac2 .ensures)
+    left-moved-some _ _ _ _ (c .before .before .before .before .before .before .before .pre .0) (omega arith) (c .before .before .before .before .keep .ensures)
+    (c .before .before .before .skip .ensures) (c .before .before .empty .ensures) (c .before .new-int .ensures) (c .new-frac2 .ensures)
 
 pub move-left-spec : {M : Type 1} → statement M
 move-left-spec =

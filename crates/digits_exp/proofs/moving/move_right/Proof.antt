@@ -34,7 +34,9 @@ new-frac-requires c κs = (empty-stands _ (c .empty .ensures) .is, c .before .be
 
 returns-2 : tie.Need-returns-2
 returns-2 c =
-    right-moved-some _ _ _ _ (c .before .before .before .before .before .before .before .pre .1) (omega arith) (c .before .before .before .before .keep .ensures) (c .before .before .before .skip .ensures) (c .before .empty .ensures) (c .before .before .new-int2 .ensures) (c .new-frac .ensures)
+    right-moved-some _ _ _ _ (c .before .before .before .before .before .before .before .pre .1) (omega arith)
+    (c .before .before .before .before .keep .ensures) (c .before .before .before .skip .ensures) (c .before .empty .ensures)
+    (c .before .before .new-int2 .ensures) (c .new-frac .ensures)
 
 pub move-right-spec : {M : Type 1} → statement M
 move-right-spec =

@@ -16,7 +16,8 @@ empty-requires c κs = search needs
 
 returns : tie.Need-returns
 returns c =
-    back-none _ _ _ (c .before .before .before .before .without-trailing-zeros .ensures) (c .before .before .if1 .taken) (c .before .without-trailing-zeros2 .ensures) (c .empty .ensures)
+    back-none _ _ _ (c .before .before .before .before .without-trailing-zeros .ensures) (c .before .before .if1 .taken)
+    (c .before .without-trailing-zeros2 .ensures) (c .empty .ensures)
 
 returns-2 : tie.Need-returns-2
 returns-2 c =

@@ -16,7 +16,8 @@ empty-requires c κs = search needs
 
 returns : tie.Need-returns
 returns c =
-    front-none _ _ _ (c .before .before .before .before .without-leading-zeros .ensures) (c .before .before .if1 .taken) (c .before .without-leading-zeros2 .ensures) (c .empty .ensures)
+    front-none _ _ _ (c .before .before .before .before .without-leading-zeros .ensures) (c .before .before .if1 .taken)
+    (c .before .without-leading-zeros2 .ensures) (c .empty .ensures)
 
 returns-2 : tie.Need-returns-2
 returns-2 c =

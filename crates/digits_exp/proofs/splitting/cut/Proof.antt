@@ -28,7 +28,9 @@ smaller-requires-4 c κs = search needs
 
 returns : tie.Need-returns
 returns c =
-    cut-is _ _ (c .before .before .before .before .before .before .past .ensures) (c .before .before .before .before .before .past2 .ensures) (c .before .past3 .ensures) (c .before .before .before .before .smaller .ensures) (c .before .before .before .smaller2 .ensures) (c .before .before .smaller3 .ensures) (c .smaller4 .ensures)
+    cut-is _ _ (c .before .before .before .before .before .before .past .ensures) (c .before .before .before .before .before .past2 .ensures)
+    (c .before .past3 .ensures) (c .before .before .before .before .smaller .ensures) (c .before .before .before .smaller2 .ensures)
+    (c .before .before .smaller3 .ensures) (c .smaller4 .ensures)
 
 pub cut-spec : {M : Type 1} → statement M
 cut-spec =

@@ -25,7 +25,9 @@ sub-t10 c =
 
 returns : tie.Need-returns
 returns c =
-    from-exp _ _ (c .before .before .before .before .before .before .before .before .cut .ensures) _ (c .before .before .before .before .before .before .before .before .before .before .pre) (c .before .before .before .skip .ensures) (c .before .before .skip2 .ensures)
+    from-exp _ _ (c .before .before .before .before .before .before .before .before .cut .ensures) _
+    (c .before .before .before .before .before .before .before .before .before .before .pre) (c .before .before .before .skip .ensures)
+    (c .before .before .skip2 .ensures)
 
 pub from-spec : {M : Type 1} → statement M
 from-spec = tie.close (tie.spec cut-requires sub-t7 skip-requires skip-requires-2 sub-t10 returns)

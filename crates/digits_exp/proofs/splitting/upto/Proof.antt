@@ -18,7 +18,8 @@ keep-requires-2 c κs =
 
 returns : tie.Need-returns
 returns c =
-    upto-exp _ _ (c .before .before .before .before .cut .ensures) _ (c .before .before .before .before .before .before .pre) (c .before .keep .ensures) (c .keep2 .ensures)
+    upto-exp _ _ (c .before .before .before .before .cut .ensures) _ (c .before .before .before .before .before .before .pre) (c .before .keep .ensures)
+    (c .keep2 .ensures)
 
 pub upto-spec : {M : Type 1} → statement M
 upto-spec = tie.close (tie.spec cut-requires keep-requires keep-requires-2 returns)

@@ -15,7 +15,11 @@ place-requires c κs = search needs
 
 add-trim : tie.Need-add-trim
 add-trim c =
-    omega (arith, split-within (c .before .before .before .args .text .now) (c .before .before .before .args .s .from) (c .before .before .before .args .s .to) (c .before .before .before .args .mid) (c .before .view-of .ensures) (c .place .ensures))
+    omega (
+      arith,
+      split-within (c .before .before .before .args .text .now) (c .before .before .before .args .s .from) (c .before .before .before .args .s .to)
+          (c .before .before .before .args .mid) (c .before .view-of .ensures) (c .place .ensures),
+    )
 
 trim-requires : tie.Need-trim-requires
 trim-requires c κs = search needs

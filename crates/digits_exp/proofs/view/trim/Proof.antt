@@ -15,7 +15,11 @@ unds-front-requires c κs = search needs
 
 add-start : tie.Need-add-start
 add-start c =
-    omega (arith, trim-start (c .before .before .before .args .text .now) (c .before .before .before .args .from) (c .before .before .before .args .to) (c .before .between .ensures) (c .unds-front .ensures) refl)
+    omega (
+      arith,
+      trim-start (c .before .before .before .args .text .now) (c .before .before .before .args .from) (c .before .before .before .args .to)
+          (c .before .between .ensures) (c .unds-front .ensures) refl,
+    )
 
 new-requires : tie.Need-new-requires
 new-requires c κs = search needs

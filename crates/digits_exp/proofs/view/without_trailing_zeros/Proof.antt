@@ -20,7 +20,8 @@ keep-requires c κs = search needs
 
 returns : tie.Need-returns
 returns c =
-    trailing-stands _ _ (c .before .before .before .before .before .pre) (c .before .before .before .view-of .ensures) (c .before .before .trailing-zeros .ensures) (c .keep .ensures)
+    trailing-stands _ _ (c .before .before .before .before .before .pre) (c .before .before .before .view-of .ensures)
+    (c .before .before .trailing-zeros .ensures) (c .keep .ensures)
 
 pub without-trailing-zeros-spec : {M : Type 1} → statement M
 without-trailing-zeros-spec =
