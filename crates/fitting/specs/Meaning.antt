@@ -69,13 +69,8 @@ pub record Fitted : Type 0 where
   pub taps : List ℤ
 
 abbrev pub fitted : FileAnswer → List ℕ → List ℤ → List ℕ → List ℤ → Fitted
-fitted answer lines raws answers taps = record {
-  answer = answer;
-  lines = lines;
-  raws = raws;
-  answers = answers;
-  taps = taps;
-}
+fitted answer lines raws answers taps =
+    record { answer = answer; lines = lines; raws = raws; answers = answers; taps = taps }
 
 -- the list is written, "and the taps if none is refused"
 abbrev pub listed : List ValueLine → List ℕ → List ℤ → List ℕ → List ℤ → Fitted
@@ -86,7 +81,7 @@ listed vs lines raws answers taps =
 -- what is refused, or the list
 unfoldable pub fittedOf : List ℕ → List ℕ → List ℤ → List ℕ → List ℤ → Fitted
 fittedOf file lines raws answers taps =
-    guarded (fileFault (length file) (length (valuesOf file)) (length lines) (length raws) (length answers)
-    (length taps))
+    guarded
+    (fileFault (length file) (length (valuesOf file)) (length lines) (length raws) (length answers) (length taps))
     (λ n. fitted (Refused n) lines raws answers taps)
     (listed (valuesOf file) lines raws answers taps)

@@ -51,14 +51,15 @@ abbrev pub blank : Bool → Written
 blank n = record { neg = n; digits = []; after = 0; base = 1; down = false; exp = 0 }
 
 abbrev pub withDigit : Written → ℕ → ℕ → Written
-withDigit x d places = record {
-  neg = x .neg;
-  digits = x .digits ++ (d ∷ []);
-  after = x .after + places;
-  base = x .base;
-  down = x .down;
-  exp = x .exp;
-}
+withDigit x d places =
+    record {
+      neg = x .neg;
+      digits = x .digits ++ (d ∷ []);
+      after = x .after + places;
+      base = x .base;
+      down = x .down;
+      exp = x .exp;
+    }
 
 abbrev pub withBase : Written → ℕ → Written
 withBase x b = record { neg = x .neg; digits = x .digits; after = x .after; base = b; down = x .down; exp = x .exp }
