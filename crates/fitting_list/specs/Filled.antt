@@ -64,7 +64,8 @@ abbrev blank : ValueLine
 blank = valueLine 0 []
 
 -- what the loop picks is what the value gives
-over-at : {B : Type 0} (f : ValueLine → B) (vs : List ValueLine) (old : List B) (i : ℕ) (d : B) → i < length vs → getD (over (map f vs) old) i d ≡ f (getD vs i blank)
+over-at : {B : Type 0} (f : ValueLine → B) (vs : List ValueLine) (old : List B) (i : ℕ) (d : B) → i < length vs
+    → getD (over (map f vs) old) i d ≡ f (getD vs i blank)
 over-at f vs old i d h =
     let there : i < length (map f vs) = rw (length-map vs f) h in
     List·getD-append (map f vs) (drop (length (map f vs)) old) d i there ∙ any-default (map f vs) i d (f blank) there ∙ List·getD-map f vs i blank
@@ -100,14 +101,18 @@ handed file xs taps f last is = go (eqb (faultAt file (length xs) (length taps))
   where
     go : (b : Bool) → eqb (faultAt file (length xs) (length taps)) 0 ≡ b
         → fitted (f .outcome) (f .lines) (f .raws) (f .answers) last
-        ≡ cond b (listed (valuesOf file) zero-places signed-zeros zero-places taps) (fitted (Refused (faultAt file (length xs) (length taps))) zero-places signed-zeros zero-places taps)
+        ≡ cond b (listed (valuesOf file) zero-places signed-zeros zero-places taps)
+        (fitted (Refused (faultAt file (length xs) (length taps))) zero-places signed-zeros zero-places taps)
         → f .n ≡ cond b (length (valuesOf file)) 0
         → records (f .outcome) (filled f xs (f .n)) last
-        ≡ cond b (records (judgeAll (valuesOf file)) (over (map entryOf (valuesOf file)) xs) (cond (accepted (valuesOf file)) (over (map rawAt (valuesOf file)) taps) taps))
+        ≡ cond b (records (judgeAll (valuesOf file)) (over (map entryOf (valuesOf file)) xs)
+        (cond (accepted (valuesOf file)) (over (map rawAt (valuesOf file)) taps) taps))
         (records (Refused (faultAt file (length xs) (length taps))) xs taps)
     go true e l c =
         let vs = valuesOf file in
-        let room = fault-none (length file) (length vs) (length xs) (length xs) (length xs) (length taps) (eqb-true (faultAt file (length xs) (length taps)) 0 e) in
-        let all = all-stored vs f (ap (λ (t : Fitted). t .lines) l) (ap (λ (t : Fitted). t .raws) l) (ap (λ (t : Fitted). t .answers) l) xs (room .lines-room) in
+        let room = fault-none (length file) (length vs) (length xs) (length xs) (length xs) (length taps)
+        (eqb-true (faultAt file (length xs) (length taps)) 0 e) in
+        let all = all-stored vs f (ap (λ (t : Fitted). t .lines) l) (ap (λ (t : Fitted). t .raws) l) (ap (λ (t : Fitted). t .answers) l) xs
+        (room .lines-room) in
         same-records (ap (λ (t : Fitted). t .answer) l) (ap (filled f xs) c ∙ all) (ap (λ (t : Fitted). t .taps) l)
     go false e l c = same-records (ap (λ (t : Fitted). t .answer) l) (ap (filled f xs) c ∙ filled-zero f xs) (ap (λ (t : Fitted). t .taps) l)

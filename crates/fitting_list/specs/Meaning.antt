@@ -28,4 +28,5 @@ unfoldable pub recordsOf : List ℕ → List Entry → List ℤ → Listed
 recordsOf file list taps =
     guarded (fileFault (length file) (length (valuesOf file)) (length list) (length list) (length list) (length taps))
     (λ n. records (Refused n) list taps)
-    (records (judgeAll (valuesOf file)) (over (map entryOf (valuesOf file)) list) (cond (accepted (valuesOf file)) (over (map rawAt (valuesOf file)) taps) taps))
+    (records (judgeAll (valuesOf file)) (over (map entryOf (valuesOf file)) list)
+    (cond (accepted (valuesOf file)) (over (map rawAt (valuesOf file)) taps) taps))

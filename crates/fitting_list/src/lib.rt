@@ -1,5 +1,6 @@
-// The fitting file (01, module 9) with its list as one lent slice of records. `find` does the work in arrays, `pick` makes an entry of them; `read_list`
-// stores the entries, and is proved by a walk of its code by hand: the borrow checker covers no reference to records.
+// The fitting file (01, module 9) with its list as one lent slice of records. `find` does the work in arrays,
+// `pick` makes an entry of them; `read_list` stores the entries, and is proved by a walk of its code by hand: the
+// borrow checker covers no reference to records.
 ghost use mathlib.Core.Path.{_≡_};
 ghost use Prim.Native.Nat.{_<_};
 ghost use Rattle.filter.specs.Meaning.{mostTaps};
@@ -78,7 +79,8 @@ fn pick(f: Found, i: usize) -> Entry
 
 // The list and the taps as `fitting::read` writes them, with the list as one lent slice of records.
 pub fn read_list(file: &[u8], list: &mut [Entry], taps: &mut [i16]) -> FileAnswer
-    ensures { λ r. ⌜ ReadsList (now (file .entry)) (now (list .entry)) (now (taps .entry)) r (now (list .exit)) (now (taps .exit)) ⌝ }
+    ensures { λ r. ⌜ ReadsList (now (file .entry)) (now (list .entry)) (now (taps .entry)) r (now (list .exit))
+        (now (taps .exit)) ⌝ }
 {
     let f = find(file, list.len(), taps);
     let n = f.n;

@@ -11,7 +11,8 @@ use borrow.Author.Tests.{eqb-true, eqb-false}
 use Rattle.format.specs.Meaning.{Sign, signed, unsigned}
 use Rattle.grammar.specs.Meaning.{isSign, isMark, Written, number, expLimit, plainReading, literalMinus, literalBody, prefixMark}
 use Rattle.grammar.specs.Meaning.{prefixRadix, dropUnderscores, afterPrefix, literalRadix, literalReading, digitOf, blank}
-use Rattle.grammar.specs.Automaton.{isDigit, baseOf, NumberPart, whole, fraction, exponent, Seen, nothing, sign, digit, Scan, at, refuse, Sep, Skip, Error}
+use Rattle.grammar.specs.Automaton.{isDigit, baseOf, NumberPart, whole, fraction, exponent, Seen}
+use Rattle.grammar.specs.Automaton.{nothing, sign, digit, Scan, at, refuse, Sep, Skip, Error}
 use Rattle.grammar.specs.Automaton.{onSign, onPoint, onUnderscore, onMark, onExpDigit, onOther, step, scan, finish, plainScan, literalScan, readingOf}
 use Rattle.grammar.specs.Accepted.{by-test, BaseIs, Sound, Ends, ends-sound, finish-at, number-at, plain-ends, literal-ends}
 use Rattle.grammar.specs.Agrees.{plain-scanned, literal-scanned}

@@ -36,8 +36,11 @@ slice-aggregate-store-3 c = search needs
 
 store-requires : tie.Need-store-requires
 store-requires c κs =
-    let a = c .before .before .before .before .before .before .before .before .args in
-    let k = checked-done (a .room) (a .room) (a .room) (a .file .now) zero-places signed-zeros zero-places (a .taps .now) (c .before .before .before .before .before .before .check .ensures) (c .before .before .before .before .checked .given .1) in
+    let checked = c .before .before .before .before in
+    let call = checked .before .before in
+    let a = call .before .before .args in
+    let k = checked-done (a .room) (a .room) (a .room) (a .file .now) zero-places signed-zeros zero-places (a .taps .now)
+    (call .check .ensures) (checked .checked .given .1) in
     (k .room .short, (k .room .few, (k .room .few, k .room .few)))
 
 cast-n : tie.Need-cast-n
@@ -51,21 +54,33 @@ slice-aggregate-judge-2 c = search needs
 
 judge-requires : tie.Need-judge-requires
 judge-requires c κs =
-    let a = c .before .before .before .before .before .before .before .before .before .before .before .before .before .before .args in
-    let k = checked-done (a .room) (a .room) (a .room) (a .file .now) zero-places signed-zeros zero-places (a .taps .now) (c .before .before .before .before .before .before .before .before .before .before .before .before .check .ensures) (c .before .before .before .before .before .before .before .before .before .before .checked .given .1) in
-    let st = c .before .before .before .before .before .store .ensures in
-    let vs = valuesOf (a .file .now) in
-    (omega (arith, k .count, ap length (st .lines-are), over-long lineNumber vs zero-places), omega (arith, k .count, ap length (st .answers-are), over-long numberAt vs zero-places))
+    let stored = c .before .before .before .before .before in
+    let checked = stored .before .before .before .before .before in
+    let call = checked .before .before in
+    let a = call .before .before .args in
+    let k = checked-done (a .room) (a .room) (a .room) (a .file .now) zero-places signed-zeros zero-places (a .taps .now)
+    (call .check .ensures) (checked .checked .given .1) in
+    let st = stored .store .ensures in
+    let vs = valuesOf (a .file .now) in (
+      omega (arith, k .count, ap length (st .lines-are), over-long lineNumber vs zero-places),
+      omega (arith, k .count, ap length (st .answers-are), over-long numberAt vs zero-places),
+    )
 
 enum-known-judged : tie.Need-enum-known-judged
 enum-known-judged c = search needs
 
 returns-2 : tie.Need-returns-2
 returns-2 c =
-    let a = c .before .before .before .before .before .before .before .before .before .before .before .before .before .before .before .before .args in
-    let k = checked-done (a .room) (a .room) (a .room) (a .file .now) zero-places signed-zeros zero-places (a .taps .now) (c .before .before .before .before .before .before .before .before .before .before .before .before .before .before .check .ensures) (c .before .before .before .before .before .before .before .before .before .before .before .before .checked .given .1) in
+    let stored = c .before .before .before .before .before .before .before in
+    let checked = stored .before .before .before .before .before in
+    let call = checked .before .before in
+    let a = call .before .before .args in
+    let k = checked-done (a .room) (a .room) (a .room) (a .file .now) zero-places signed-zeros zero-places (a .taps .now)
+    (call .check .ensures) (checked .checked .given .1) in
     record {
-      lists = refused-line (a .room) (a .room) (a .room) (a .file .now) zero-places signed-zeros zero-places (a .taps .now) k (c .before .before .before .before .before .before .before .store .ensures) (c .before .judge .ensures) (not-done (c .before .judge .result) (c .match2 .keys2));
+      lists =
+          refused-line (a .room) (a .room) (a .room) (a .file .now) zero-places signed-zeros zero-places (a .taps .now) k (stored .store .ensures)
+          (c .before .judge .ensures) (not-done (c .before .judge .result) (c .match2 .keys2));
       count = count-some (a .file .now) (a .room) (length (a .taps .now)) (k .count) (k .none);
     }
 
@@ -74,11 +89,18 @@ slice-aggregate-keep c = search needs
 
 keep-requires : tie.Need-keep-requires
 keep-requires c κs =
-    let a = c .before .before .before .before .before .before .before .before .before .before .before .before .before .before .before .before .before .before .before .before .args in
-    let k = checked-done (a .room) (a .room) (a .room) (a .file .now) zero-places signed-zeros zero-places (a .taps .now) (c .before .before .before .before .before .before .before .before .before .before .before .before .before .before .before .before .before .before .check .ensures) (c .before .before .before .before .before .before .before .before .before .before .before .before .before .before .before .before .checked .given .1) in
-    let st = c .before .before .before .before .before .before .before .before .before .before .before .store .ensures in
+    let judged = c .before .before .before in
+    let judging = judged .before .before in
+    let stored = judging .before .before .before .before .before .before in
+    let checked = stored .before .before .before .before .before in
+    let call = checked .before .before in
+    let a = call .before .before .args in
+    let k = checked-done (a .room) (a .room) (a .room) (a .file .now) zero-places signed-zeros zero-places (a .taps .now)
+    (call .check .ensures) (checked .checked .given .1) in
+    let st = stored .store .ensures in
     let vs = valuesOf (a .file .now) in
-    let same = done-count (a .room) (a .room) (a .room) (a .file .now) zero-places signed-zeros zero-places (a .taps .now) k st (c .before .before .before .before .before .judge .ensures) (c .before .before .before .judged .given .1) in
+    let same = done-count (a .room) (a .room) (a .room) (a .file .now) zero-places signed-zeros zero-places (a .taps .now) k st
+    (judging .judge .ensures) (judged .judged .given .1) in
     (omega (arith, same, ap length (st .raws-are), over-long rawAt vs signed-zeros), omega (arith, same, k .room .taps-room))
 
 same-length : tie.Need-same-length
@@ -86,10 +108,18 @@ same-length c = search needs
 
 returns-3 : tie.Need-returns-3
 returns-3 c =
-    let a = c .before .before .before .before .before .before .before .before .before .before .before .before .before .before .before .before .before .before .before .before .before .before .args in
-    let k = checked-done (a .room) (a .room) (a .room) (a .file .now) zero-places signed-zeros zero-places (a .taps .now) (c .before .before .before .before .before .before .before .before .before .before .before .before .before .before .before .before .before .before .before .before .check .ensures) (c .before .before .before .before .before .before .before .before .before .before .before .before .before .before .before .before .before .before .checked .given .1) in
+    let judged = c .before .before .before .before .before in
+    let judging = judged .before .before in
+    let stored = judging .before .before .before .before .before .before in
+    let checked = stored .before .before .before .before .before in
+    let call = checked .before .before in
+    let a = call .before .before .args in
+    let k = checked-done (a .room) (a .room) (a .room) (a .file .now) zero-places signed-zeros zero-places (a .taps .now)
+    (call .check .ensures) (checked .checked .given .1) in
     record {
-      lists = all-done (a .room) (a .room) (a .room) (a .file .now) zero-places signed-zeros zero-places (a .taps .now) k (c .before .before .before .before .before .before .before .before .before .before .before .before .before .store .ensures) (c .before .before .before .before .before .before .before .judge .ensures) (c .before .before .before .before .before .judged .given .1) (c .before .keep .ensures);
+      lists =
+          all-done (a .room) (a .room) (a .room) (a .file .now) zero-places signed-zeros zero-places (a .taps .now) k (stored .store .ensures)
+          (judging .judge .ensures) (judged .judged .given .1) (c .before .keep .ensures);
       count = count-some (a .file .now) (a .room) (length (a .taps .now)) (k .count) (k .none);
     }
 

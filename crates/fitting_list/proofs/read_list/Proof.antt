@@ -24,8 +24,10 @@ use prog.Wp.{Heap, Out, Env, afterSeq, afterBlock, afterTurn, Calls, Loops, Wp, 
 use ghost.Atoms.{Atoms, sem}
 use contract.Monad.{Fun, fact}
 use contract.Running.{givenOf, tables, tablesOf}
-use types.Kit.{Given, Item, ‵, raw, _⊛_, ⋆, some, later, runs, anyQ, atRet, Sq, _$_, _∵_, !, qed, by, move, keep, drop, use0, use1, use2, split, join, pick, rewrite, fsplit, fjoin, feqL, suffices, frame, await, done}
-use types.Run.{look, init, store, store-raw, forget, stop, hop, fld, from, load, addr, lit, of-opd, bin, and-then, no-more, assigns, assigns-last, land, first, skips, jumps, blocks, branches, returns, enter, alloc1, alloc0, params1, pass1, pass0, free1, free0, exec, Below, again, loops}
+use types.Kit.{Given, Item, ‵, raw, _⊛_, ⋆, some, later, runs, anyQ, atRet, Sq, _$_, _∵_, !, qed, by, move, keep}
+use types.Kit.{drop, use0, use1, use2, split, join, pick, rewrite, fsplit, fjoin, feqL, suffices, frame, await, done}
+use types.Run.{look, init, store, store-raw, forget, stop, hop, fld, from, load, addr, lit, of-opd, bin, and-then, no-more, assigns, assigns-last, land}
+use types.Run.{first, skips, jumps, blocks, branches, returns, enter, alloc1, alloc0, params1, pass1, pass0, free1, free0, exec, Below, again, loops}
 use types.Part.{agg, whole, sub, look-in}
 use sound.WpLaws.{fmOf, WpFn-mono}
 use denote.RattleType.{owns}
@@ -36,7 +38,8 @@ use denote.Plain.{uint-makes}
 use denote.Builtin.{u8, usize}
 use denote.Signed.{SInt}
 use denote.Ref.{RefT, now}
-use denote.Slice.{sliceTy, sliceVal, slice-vals, mut-slice-tells, shr-slice-tells, shr-slice-copy, MutSlice, ShrSlice, Room, finally, heres, codedHoleys, at-slice}
+use denote.Slice.{sliceTy, sliceVal, slice-vals, mut-slice-tells, shr-slice-tells, shr-slice-copy}
+use denote.Slice.{MutSlice, ShrSlice, Room, finally, heres, codedHoleys, at-slice}
 use denote.Lend.{Held}
 use denote.Index.{row, place-is, elem-out, elem-put, opens-slice, closes-slice}
 use denote.Steps.{only, owned, peeks, heard, nothing}
@@ -49,7 +52,8 @@ use denote.Triple.Clauses.{ensured, lasts}
 use denote.Triple.Entry.{onEntry}
 use denote.Triple.Spec.{Meets, tripleOf}
 use denote.Triple.Table.{entered, cited}
-use denote.Triple.Walked.{says, Stays, stay-slice, stay-none-slice, gave-slice, walkOf, AllGo, goes-slice, goes-none-slice, goes-gave-slice, Walks, ends-at, walked, walk-meets}
+use denote.Triple.Walked.{says, Stays, stay-slice, stay-none-slice, gave-slice, walkOf, AllGo, goes-slice}
+use denote.Triple.Walked.{goes-none-slice, goes-gave-slice, Walks, ends-at, walked, walk-meets}
 use denote.Exit.{yes}
 use Rattle.fitting.proofs.FileAnswer as O
 use Rattle.fitting.proofs.FileAnswer.Laws as O′
@@ -90,7 +94,8 @@ tail return = skip
 tail (call f xs d) = skip
 
 abbrev stayed : Stays (f.ended .signature .params) (f.ended .kept)
-stayed = (stay-none-slice (0 ∷ []) tt (plain (λ _. u8)) yes, (stay-slice (1 ∷ []) tt (plain (λ _. T.the-row)), (gave-slice (2 ∷ []) tt (plain (λ _. SInt w16)), tt)))
+stayed =
+    (stay-none-slice (0 ∷ []) tt (plain (λ _. u8)) yes, (stay-slice (1 ∷ []) tt (plain (λ _. T.the-row)), (gave-slice (2 ∷ []) tt (plain (λ _. SInt w16)), tt)))
 
 abbrev τ₁ : Ty
 τ₁ = sliceTy (tyRef (named 0) imm (tyInt w8))
@@ -112,7 +117,8 @@ module _ {M : Type 1} (𝓤 : URA M) (H : Heap 𝓤) (A : Atoms 𝓤) (at-mem : 
   abbrev Pick : Contract 𝓤
   Pick = tripleOf 𝓤 H A pick′.signature (pick′.spec 𝓤 H A at-mem run)
 
-module _ {M : Type 1} (𝓤 : URA M) (H : Heap 𝓤) (A : Atoms 𝓤) (W : Given 𝓤 H A) (at-mem : Memory → SProp 𝓤) (run : Routine → Fun 𝓤) (κ₀ κ₁ κ₂ : Lft) (q₀ q₁ q₂ : Share)
+module _ {M : Type 1} (𝓤 : URA M) (H : Heap 𝓤) (A : Atoms 𝓤) (W : Given 𝓤 H A) (at-mem : Memory → SProp 𝓤) (run : Routine → Fun 𝓤) (κ₀ κ₁ κ₂ : Lft)
+    (q₀ q₁ q₂ : Share)
     (x₀ : RefT (List ℕ)) (b o : ℕ) (γ : GName) (xs : List Entry) (b₂ o₂ : ℕ) (γ₂ : GName) (ys : List ℤ)
     (room₀ : Room u8 (length (x₀ .now))) (room₁ : Room T.the-row (length xs)) (room₂ : Room (SInt w16) (length ys)) where
   abbrev x₁ : List Entry → RefT (List Entry)
@@ -170,7 +176,8 @@ module _ {M : Type 1} (𝓤 : URA M) (H : Heap 𝓤) (A : Atoms 𝓤) (W : Given
       move ! (1 ∷ 0 ∷ []) $ fjoin ! $ move ! (1 ∷ 0 ∷ []) $ join ! $ frame ! $ done !
 
   -- from the call on: F is what `find` returned, and zs what it left in the taps
-  module _ (F : Found) (zs : List ℤ) (is-found : FoundIs (now x₀) (length xs) ys F zs) (same : length zs ≡ length ys) (F-is : Is D.the-row F (LL.vals D.the-type D′.the-laws F)) (n-fits : F .n < 2 ^ 64) where
+  module _ (F : Found) (zs : List ℤ) (is-found : FoundIs (now x₀) (length xs) ys F zs) (same : length zs ≡ length ys)
+      (F-is : Is D.the-row F (LL.vals D.the-type D′.the-laws F)) (n-fits : F .n < 2 ^ 64) where
     -- the list with the first i places filled
     abbrev upto : ℕ → List Entry
     upto i = filled F xs i
@@ -189,17 +196,22 @@ module _ {M : Type 1} (𝓤 : URA M) (H : Heap 𝓤) (A : Atoms 𝓤) (W : Given
     out-is = LL.owed D.the-type D′.the-laws F _ F-is .0
 
     abbrev Left : ℕ → List (Item 𝓤)
-    Left i = ‵ (fobs γ (codedHoleys T.the-row .code (heres T.the-row (upto i)))) ∷ ‵ (fbor κ₁ (Held T.the-row (length (upto i)) b o γ)) ∷ ‵ (flft κ₁ q₁) ∷ tokens ∷ ‵ own₀ ∷ ‵ (finally (SInt w16) γ₂ zs) ∷ []
+    Left i =
+        ‵ (fobs γ (codedHoleys T.the-row .code (heres T.the-row (upto i)))) ∷ ‵ (fbor κ₁ (Held T.the-row (length (upto i)) b o γ)) ∷ ‵ (flft κ₁ q₁) ∷ tokens
+        ∷ ‵ own₀ ∷ ‵ (finally (SInt w16) γ₂ zs) ∷ []
 
     exits : (i : ℕ) → i ≡ F .n → ent 𝓤 (⋆ 𝓤 H A (Left i)) (Post out)
     exits i is =
         qed W (Left i) ∵
-        suffices ! _ (ends-at 𝓤 H A f.ended stayed (f.clauses 𝓤 H A at-mem run) W bound out (F .outcome) (tt, (upto i, (zs, tt))) (tt, (length-filled F xs i, (same, tt)))) $
+        suffices ! _ (ends-at 𝓤 H A f.ended stayed (f.clauses 𝓤 H A at-mem run) W bound out (F .outcome) (tt, (upto i, (zs, tt)))
+        (tt, (length-filled F xs i, (same, tt)))) $
         says ! promised $
         -- [obs; the borrow; token 1; tokens 0 and 2; what the file owns; the last taps]
         move ! (3 ∷ []) $ split ! $ move ! (4 ∷ 1 ∷ []) $ join ! $ move ! (1 ∷ 0 ∷ []) $ join ! $ frame ! $
-        fjoin ! $ pureI ! (at-slice T.the-row (x₁ (upto i)) (s₁ ∷ [])) (tt, (tt, tt)) (ap (λ (m : ℕ). sliceVal (b, o) m ∷ []) (sym (length-filled F xs i)), subst (Room T.the-row) (sym (length-filled F xs i)) room₁) $ fjoin ! $
-        nothing ! $ move ! (3 ∷ 0 ∷ []) $ fjoin ! $ move ! (1 ∷ 0 ∷ []) $ fjoin ! $ move ! (1 ∷ 0 ∷ []) $ fjoin ! $ frame ! $ owned ! O.the-row (Is O.the-row) (EL.makes O.the-type O′.the-plain 𝓤 H A) (F .outcome) (out ∷ []) out-is $ done !
+        fjoin ! $ pureI ! (at-slice T.the-row (x₁ (upto i)) (s₁ ∷ [])) (tt, (tt, tt))
+        (ap (λ (m : ℕ). sliceVal (b, o) m ∷ []) (sym (length-filled F xs i)), subst (Room T.the-row) (sym (length-filled F xs i)) room₁) $ fjoin ! $
+        nothing ! $ move ! (3 ∷ 0 ∷ []) $ fjoin ! $ move ! (1 ∷ 0 ∷ []) $ fjoin ! $ move ! (1 ∷ 0 ∷ []) $ fjoin ! $ frame ! $
+        owned ! O.the-row (Is O.the-row) (EL.makes O.the-type O′.the-plain 𝓤 H A) (F .outcome) (out ∷ []) out-is $ done !
       where
         promised : records (F .outcome) (upto i) zs ≡ recordsOf (now x₀) xs ys
         promised = ap (λ (k : ℕ). records (F .outcome) (upto k) zs) is ∙ handed (now x₀) xs ys F zs is-found
@@ -210,7 +222,8 @@ module _ {M : Type 1} (𝓤 : URA M) (H : Heap 𝓤) (A : Atoms 𝓤) (W : Given
 
     goes-pick : (i : ℕ) → i < 64 → i < 2 ^ 64 → ent 𝓤 (emp 𝓤) (Pick 𝓤 H A at-mem run .pre (to-pick i))
     goes-pick i less fits =
-        qed W [] ∵ says ! less $ nothing ! $ owned ! usize (Is usize) (uint-makes 𝓤 H A W w64) i (vint w64 i ∷ []) (refl, fits) $ fjoin ! $ owned ! D.the-row (Is D.the-row) (LL.makes D.the-type D′.the-plain 𝓤 H A) F _ F-is $ fjoin ! $
+        qed W [] ∵ says ! less $ nothing ! $ owned ! usize (Is usize) (uint-makes 𝓤 H A W w64) i (vint w64 i ∷ []) (refl, fits) $ fjoin ! $
+        owned ! D.the-row (Is D.the-row) (LL.makes D.the-type D′.the-plain 𝓤 H A) F _ F-is $ fjoin ! $
         nothing ! $ join ! $ done !
 
     pick-said : (i : ℕ) (r : Entry) → ent 𝓤 (ensured 𝓤 H A pick′.ended (pick′.clauses 𝓤 H A at-mem run) tt (F, (i, tt)) tt r) (fact 𝓤 (r ≡ entryAt F i))
@@ -234,13 +247,25 @@ module _ {M : Type 1} (𝓤 : URA M) (H : Heap 𝓤) (A : Atoms 𝓤) (W : Given
       Λ = 𝓣 .Λ
 
       abbrev En : Env 𝓤 H
-      En = (O′.mir, l₀) ∷ (τ₁, l₁) ∷ (τ₂, l₂) ∷ (τ₃, l₃) ∷ (D′.mir, l₄) ∷ (tyInt w64, l₅) ∷ (tyInt w64, l₆) ∷ (tyInt w64, l₇) ∷ (tyRef erased mut (tyInt w16), l₈) ∷ (τ₉, l₉) ∷ (tyBool, l₁₀) ∷ (T′.mir, l₁₁) ∷ (tyInt w64, l₁₂) ∷ (tyPtr, l₁₃) ∷ []
+      En =
+          (O′.mir, l₀) ∷ (τ₁, l₁) ∷ (τ₂, l₂) ∷ (τ₃, l₃) ∷ (D′.mir, l₄) ∷ (tyInt w64, l₅) ∷ (tyInt w64, l₆) ∷ (tyInt w64, l₇) ∷ (
+            tyRef erased mut (tyInt w16),
+            l₈,
+          ) ∷ (τ₉, l₉) ∷ (tyBool, l₁₀) ∷ (T′.mir, l₁₁) ∷ (tyInt w64, l₁₂) ∷ (tyPtr, l₁₃) ∷ []
 
       -- the invariant: the list's row; the locals, from the last; and what no turn touches
       abbrev At : Upto → List (Item 𝓤)
       At i = ‵ (row T.the-row fullShare (upto (i .0)) b o)
-          ∷ ‵ (froom (tyPtr) l₁₃ 0) ∷ ‵ (fdies (tyPtr) l₁₃) ∷ ‵ (froom (tyInt w64) l₁₂ 0) ∷ ‵ (fdies (tyInt w64) l₁₂) ∷ ‵ (froom (T′.mir) l₁₁ 0) ∷ ‵ (fdies (T′.mir) l₁₁) ∷ ‵ (froom (tyBool) l₁₀ 0) ∷ ‵ (fdies (tyBool) l₁₀) ∷ ‵ (fat fullShare (τ₉) l₉ 0 (s₂)) ∷ ‵ (fdies (τ₉) l₉) ∷ ‵ (fat fullShare (tyRef erased mut (tyInt w16)) l₈ 0 (vptr b₂ o₂)) ∷ ‵ (fdies (tyRef erased mut (tyInt w16)) l₈) ∷ ‵ (fat fullShare (tyInt w64) l₇ 0 (vint w64 (length xs))) ∷ ‵ (fdies (tyInt w64) l₇) ∷ ‵ (fat fullShare (tyInt w64) l₆ 0 (vint w64 (i .0))) ∷ ‵ (fdies (tyInt w64) l₆) ∷ ‵ (fat fullShare (tyInt w64) l₅ 0 (vint w64 (F .n))) ∷ ‵ (fdies (tyInt w64) l₅) ∷ ‵ (fat fullShare (D′.mir) l₄ 0 (LL.val D.the-type D′.the-laws F)) ∷ ‵ (fdies (D′.mir) l₄) ∷ ‵ (fat fullShare (τ₃) l₃ 0 (s₂)) ∷ ‵ (fdies (τ₃) l₃) ∷ ‵ (fat fullShare (τ₂) l₂ 0 (s₁)) ∷ ‵ (fdies (τ₂) l₂) ∷ ‵ (fat fullShare (τ₁) l₁ 0 (s₀)) ∷ ‵ (fdies (τ₁) l₁) ∷ ‵ (froom (O′.mir) l₀ 0) ∷ ‵ (fdies (O′.mir) l₀)
-          ∷ ‵ (fobor κ₁ q₁ (Held T.the-row (length xs) b o γ)) ∷ ‵ (fobs γ (codedHoleys T.the-row .code (heres T.the-row xs))) ∷ ‵ (fauth γ (codedHoleys T.the-row .code (heres T.the-row xs)))
+          ∷ ‵ (froom (tyPtr) l₁₃ 0) ∷ ‵ (fdies (tyPtr) l₁₃) ∷ ‵ (froom (tyInt w64) l₁₂ 0) ∷ ‵ (fdies (tyInt w64) l₁₂) ∷ ‵ (froom (T′.mir) l₁₁ 0)
+          ∷ ‵ (fdies (T′.mir) l₁₁) ∷ ‵ (froom (tyBool) l₁₀ 0) ∷ ‵ (fdies (tyBool) l₁₀) ∷ ‵ (fat fullShare (τ₉) l₉ 0 (s₂)) ∷ ‵ (fdies (τ₉) l₉)
+          ∷ ‵ (fat fullShare (tyRef erased mut (tyInt w16)) l₈ 0 (vptr b₂ o₂)) ∷ ‵ (fdies (tyRef erased mut (tyInt w16)) l₈)
+          ∷ ‵ (fat fullShare (tyInt w64) l₇ 0 (vint w64 (length xs))) ∷ ‵ (fdies (tyInt w64) l₇) ∷ ‵ (fat fullShare (tyInt w64) l₆ 0 (vint w64 (i .0)))
+          ∷ ‵ (fdies (tyInt w64) l₆) ∷ ‵ (fat fullShare (tyInt w64) l₅ 0 (vint w64 (F .n))) ∷ ‵ (fdies (tyInt w64) l₅)
+          ∷ ‵ (fat fullShare (D′.mir) l₄ 0 (LL.val D.the-type D′.the-laws F)) ∷ ‵ (fdies (D′.mir) l₄) ∷ ‵ (fat fullShare (τ₃) l₃ 0 (s₂)) ∷ ‵ (fdies (τ₃) l₃)
+          ∷ ‵ (fat fullShare (τ₂) l₂ 0 (s₁)) ∷ ‵ (fdies (τ₂) l₂) ∷ ‵ (fat fullShare (τ₁) l₁ 0 (s₀)) ∷ ‵ (fdies (τ₁) l₁) ∷ ‵ (froom (O′.mir) l₀ 0)
+          ∷ ‵ (fdies (O′.mir) l₀)
+          ∷ ‵ (fobor κ₁ q₁ (Held T.the-row (length xs) b o γ)) ∷ ‵ (fobs γ (codedHoleys T.the-row .code (heres T.the-row xs)))
+          ∷ ‵ (fauth γ (codedHoleys T.the-row .code (heres T.the-row xs)))
           ∷ tokens ∷ ‵ own₀ ∷ ‵ (finally (SInt w16) γ₂ zs) ∷ []
 
       abbrev Turned : Upto → Out → SProp 𝓤
@@ -264,42 +289,64 @@ module _ {M : Type 1} (𝓤 : URA M) (H : Heap 𝓤) (A : Atoms 𝓤) (W : Given
       turns : (i : Upto) → Sq W (At i) (runs C Λ En mir′.turn-1 (anyQ (Turned i)))
       unfolding afterTurn
       turns i =
-          assigns ! (bin ! (load ! (from ! (stop !)) (look ! 15 refl)) (load ! (from ! (stop !)) (look ! 17 refl)) tt) (from ! (stop !)) (init ! 7 refl (tt, tt)) $
+          assigns ! (bin ! (load ! (from ! (stop !)) (look ! 15 refl)) (load ! (from ! (stop !)) (look ! 17 refl)) tt) (from ! (stop !))
+          (init ! 7 refl (tt, tt)) $
           first ! $ branches ! (load ! (from ! (stop !)) (look ! 7 refl))
           (λ less. skips ! $ exec ! C Λ En (tail (tail mir′.turn-1)) (anyQ (Turned i)) $
           use0 W (raw (Pick 𝓤 H A at-mem run .pre (to-pick (i .0)))) (goes-pick (i .0) (within i less n-small) (fits i)) $
-          calls-at ! (fmOf 𝓤 H (W .laws) 𝓣) (Pick 𝓤 H A at-mem run) known-pick (to-pick (i .0)) (and-then ! (load ! (from ! (stop !)) (look ! 20 refl)) (and-then ! (load ! (from ! (stop !)) (look ! 16 refl)) (no-more !))) (λ v.
-          use1 W (later (some (λ (r : Entry). (‵ ftrue ⊛ ‵ (T.the-row .own r (v ∷ []))) ⊛ raw (ensured 𝓤 H A pick′.ended (pick′.clauses 𝓤 H A at-mem run) tt (F, (i .0, tt)) tt r)))) (id⊢ 𝓤 _) $ await ! tt $ pick ! (λ y.
-          split ! $ move ! (1 ∷ []) $ use1 W (raw (fact 𝓤 (y ≡ entryAt F (i .0)))) (pick-said (i .0) y) $ heard ! (y ≡ entryAt F (i .0)) (λ e. split ! $ drop ! $
+          calls-at ! (fmOf 𝓤 H (W .laws) 𝓣) (Pick 𝓤 H A at-mem run) known-pick (to-pick (i .0))
+          (and-then ! (load ! (from ! (stop !)) (look ! 20 refl)) (and-then ! (load ! (from ! (stop !)) (look ! 16 refl)) (no-more !))) (λ v.
+          use1 W (later (some (λ (r : Entry). (‵ ftrue ⊛ ‵ (T.the-row .own r (v ∷ []))) ⊛ raw
+          (ensured 𝓤 H A pick′.ended (pick′.clauses 𝓤 H A at-mem run) tt (F, (i .0, tt)) tt r)))) (id⊢ 𝓤 _) $ await ! tt $ pick ! (λ y.
+          split ! $ move ! (1 ∷ []) $ use1 W (raw (fact 𝓤 (y ≡ entryAt F (i .0)))) (pick-said (i .0) y) $
+          heard ! (y ≡ entryAt F (i .0)) (λ e. split ! $ drop ! $
           peeks ! T.the-row (Is T.the-row) (shows 𝓤 H A T.the-row) y (v ∷ []) (λ y-is. drop ! $
           land ! (from ! (stop !)) (init ! 5 refl (LL.lawful T.the-type T′.the-laws 𝓤 H A W .typed y _ y-is .0)) $
-          assigns ! (bin ! (load ! (from ! (stop !)) (look ! 15 refl)) (lit ! tt) (record { fits = far i less })) (from ! (stop !)) (init ! 3 refl (tt, record { fits = far i less })) $
-          assigns ! (bin ! (load ! (from ! (fld ! refl (stop !))) (look-in ! 23 (sub ! 0 refl (whole !)))) (load ! (from ! (stop !)) (look ! 3 refl)) tt) (from ! (stop !)) (init ! 1 refl (tt, tt)) $
+          assigns ! (bin ! (load ! (from ! (stop !)) (look ! 15 refl)) (lit ! tt) (record { fits = far i less })) (from ! (stop !))
+          (init ! 3 refl (tt, record { fits = far i less })) $
+          assigns ! (bin ! (load ! (from ! (fld ! refl (stop !))) (look-in ! 23 (sub ! 0 refl (whole !)))) (load ! (from ! (stop !)) (look ! 3 refl)) tt)
+          (from ! (stop !)) (init ! 1 refl (tt, tt)) $
           rewrite ! 1 (λ (p : ℕ). ‵ (fat fullShare tyPtr l₁₃ 0 (vptr b p))) (sym (place-is 12 o (i .0))) refl $
-          elem-out ! T.the-row (Is T.the-row) (shows 𝓤 H A T.the-row) (LL.vals T.the-type T′.the-laws) (LL.tells T.the-type T′.the-laws) fullShare (upto (i .0)) (i .0) y b o (within-list i less) (λ _.
+          elem-out ! T.the-row (Is T.the-row) (shows 𝓤 H A T.the-row) (LL.vals T.the-type T′.the-laws) (LL.tells T.the-type T′.the-laws) fullShare (upto (i .0))
+          (i .0) y b o (within-list i less) (λ _.
           -- [list[i]; what it owns; the others; _10; …; … ; _0; …; the open borrow; obs; auth; token 0; what the text owns]
-          assigns ! (of-opd ! (load ! (from ! (stop !)) (look ! 7 refl))) (from ! (hop ! (look ! 3 refl) (stop !))) (store-raw ! 0 refl (LL.lawful T.the-type T′.the-laws 𝓤 H A W .typed y _ y-is .0)) $
-          move ! (1 ∷ []) $ drop ! $ owned ! T.the-row (Is T.the-row) (LL.makes T.the-type T′.the-plain 𝓤 H A) y _ y-is $ move ! (1 ∷ 0 ∷ []) $ elem-put ! T.the-row fullShare (upto (i .0)) (i .0) y (v ∷ []) b o (within-list i less) $
+          assigns ! (of-opd ! (load ! (from ! (stop !)) (look ! 7 refl))) (from ! (hop ! (look ! 3 refl) (stop !)))
+          (store-raw ! 0 refl (LL.lawful T.the-type T′.the-laws 𝓤 H A W .typed y _ y-is .0)) $
+          move ! (1 ∷ []) $ drop ! $ owned ! T.the-row (Is T.the-row) (LL.makes T.the-type T′.the-plain 𝓤 H A) y _ y-is $ move ! (1 ∷ 0 ∷ []) $
+          elem-put ! T.the-row fullShare (upto (i .0)) (i .0) y (v ∷ []) b o (within-list i less) $
           rewrite ! 0 (λ (l : List Entry). ‵ (row T.the-row fullShare l b o)) (ap (set (upto (i .0)) (i .0)) e ∙ sym (filled-next F xs (i .0))) refl $
-          assigns-last ! (bin ! (load ! (from ! (stop !)) (look ! 15 refl)) (lit ! tt) (record { fits = fits (next i less) })) (from ! (stop !)) (store ! 15 refl (tt, record { fits = fits (next i less) })) $
+          assigns-last ! (bin ! (load ! (from ! (stop !)) (look ! 15 refl)) (lit ! tt) (record { fits = fits (next i less) })) (from ! (stop !))
+          (store ! 15 refl (tt, record { fits = fits (next i less) })) $
           forget ! 7 refl $ forget ! 5 refl $ forget ! 3 refl $ forget ! 1 refl $
           again ! Nearer At i (next i less) (add-one-dec (F .n) (i .0) (ltb→lt (i .0) (F .n) less))))))))
           (λ over. jumps ! $ exec ! C Λ En mir′.t-8 (atRet En Post) $
           move ! (0 ∷ 29 ∷ 30 ∷ 31 ∷ []) $ closes-slice ! tt T.the-row xs (upto (i .0)) (length-filled F xs (i .0)) b o $
           -- [obs; the borrow; token 1; _13; …; … ; _0; …; tokens 0 and 2; what the file owns; the last taps]
-          assigns ! (of-opd ! (load ! (from ! (fld ! refl (stop !))) (look-in ! 21 (sub ! 0 refl (whole !))))) (from ! (stop !)) (init ! 29 refl (EL.lawful O.the-type O′.the-laws 𝓤 H A W tt .typed (F .outcome) _ out-is .0)) $
-          returns ! (look ! 29 refl) $ forget ! 29 refl $ forget ! 27 refl $ forget ! 25 refl $ forget ! 23 refl $ forget ! 21 refl $ forget ! 19 refl $ forget ! 17 refl $ forget ! 15 refl $ forget ! 13 refl $ forget ! 11 refl $ forget ! 9 refl $
-          move ! (29 ∷ 30 ∷ []) $ free1 ! $ move ! (27 ∷ 28 ∷ []) $ free1 ! $ move ! (25 ∷ 26 ∷ []) $ free1 ! $ move ! (23 ∷ 24 ∷ []) $ free1 ! $ move ! (21 ∷ 22 ∷ []) $ free1 ! $ move ! (19 ∷ 20 ∷ []) $ free1 ! $ move ! (17 ∷ 18 ∷ []) $ free1 ! $ move ! (15 ∷ 16 ∷ []) $ free1 ! $ move ! (13 ∷ 14 ∷ []) $ free1 ! $ move ! (11 ∷ 12 ∷ []) $ free1 ! $ move ! (9 ∷ 10 ∷ []) $ free1 ! $ move ! (7 ∷ 8 ∷ []) $ free1 ! $ move ! (5 ∷ 6 ∷ []) $ free1 ! $ move ! (3 ∷ 4 ∷ []) $ free1 ! $ free0 ! $
+          assigns ! (of-opd ! (load ! (from ! (fld ! refl (stop !))) (look-in ! 21 (sub ! 0 refl (whole !))))) (from ! (stop !))
+          (init ! 29 refl (EL.lawful O.the-type O′.the-laws 𝓤 H A W tt .typed (F .outcome) _ out-is .0)) $
+          returns ! (look ! 29 refl) $ forget ! 29 refl $ forget ! 27 refl $ forget ! 25 refl $ forget ! 23 refl $ forget ! 21 refl $ forget ! 19 refl $
+          forget ! 17 refl $ forget ! 15 refl $ forget ! 13 refl $ forget ! 11 refl $ forget ! 9 refl $
+          move ! (29 ∷ 30 ∷ []) $ free1 ! $ move ! (27 ∷ 28 ∷ []) $ free1 ! $ move ! (25 ∷ 26 ∷ []) $ free1 ! $ move ! (23 ∷ 24 ∷ []) $ free1 ! $
+          move ! (21 ∷ 22 ∷ []) $ free1 ! $ move ! (19 ∷ 20 ∷ []) $ free1 ! $ move ! (17 ∷ 18 ∷ []) $ free1 ! $ move ! (15 ∷ 16 ∷ []) $ free1 ! $
+          move ! (13 ∷ 14 ∷ []) $ free1 ! $ move ! (11 ∷ 12 ∷ []) $ free1 ! $ move ! (9 ∷ 10 ∷ []) $ free1 ! $ move ! (7 ∷ 8 ∷ []) $ free1 ! $
+          move ! (5 ∷ 6 ∷ []) $ free1 ! $ move ! (3 ∷ 4 ∷ []) $ free1 ! $ free0 ! $
           by ! (exits (i .0) (le-antisymm (i .1) (nltb→le (i .0) (F .n) over))))
 
       -- from the return of `find`: the count is read, the list's borrow is opened, and the loop runs
       abbrev Called : List (Item 𝓤)
       Called = tokens ∷ ‵ (finally (SInt w16) γ₂ zs) ∷ ‵ (flft κ₁ q₁) ∷ ‵ own₁ ∷ ‵ own₀
-          ∷ ‵ (froom (tyPtr) l₁₃ 0) ∷ ‵ (fdies (tyPtr) l₁₃) ∷ ‵ (froom (tyInt w64) l₁₂ 0) ∷ ‵ (fdies (tyInt w64) l₁₂) ∷ ‵ (froom (T′.mir) l₁₁ 0) ∷ ‵ (fdies (T′.mir) l₁₁) ∷ ‵ (froom (tyBool) l₁₀ 0) ∷ ‵ (fdies (tyBool) l₁₀) ∷ ‵ (fat fullShare (τ₉) l₉ 0 (s₂)) ∷ ‵ (fdies (τ₉) l₉) ∷ ‵ (fat fullShare (tyRef erased mut (tyInt w16)) l₈ 0 (vptr b₂ o₂)) ∷ ‵ (fdies (tyRef erased mut (tyInt w16)) l₈) ∷ ‵ (fat fullShare (tyInt w64) l₇ 0 (vint w64 (length xs))) ∷ ‵ (fdies (tyInt w64) l₇) ∷ ‵ (froom (tyInt w64) l₆ 0) ∷ ‵ (fdies (tyInt w64) l₆) ∷ ‵ (froom (tyInt w64) l₅ 0) ∷ ‵ (fdies (tyInt w64) l₅) ∷ ‵ (fat fullShare (D′.mir) l₄ 0 (LL.val D.the-type D′.the-laws F)) ∷ ‵ (fdies (D′.mir) l₄) ∷ ‵ (fat fullShare (τ₃) l₃ 0 (s₂)) ∷ ‵ (fdies (τ₃) l₃) ∷ ‵ (fat fullShare (τ₂) l₂ 0 (s₁)) ∷ ‵ (fdies (τ₂) l₂) ∷ ‵ (fat fullShare (τ₁) l₁ 0 (s₀)) ∷ ‵ (fdies (τ₁) l₁) ∷ ‵ (froom (O′.mir) l₀ 0) ∷ ‵ (fdies (O′.mir) l₀) ∷ []
+          ∷ ‵ (froom (tyPtr) l₁₃ 0) ∷ ‵ (fdies (tyPtr) l₁₃) ∷ ‵ (froom (tyInt w64) l₁₂ 0) ∷ ‵ (fdies (tyInt w64) l₁₂) ∷ ‵ (froom (T′.mir) l₁₁ 0)
+          ∷ ‵ (fdies (T′.mir) l₁₁) ∷ ‵ (froom (tyBool) l₁₀ 0) ∷ ‵ (fdies (tyBool) l₁₀) ∷ ‵ (fat fullShare (τ₉) l₉ 0 (s₂)) ∷ ‵ (fdies (τ₉) l₉)
+          ∷ ‵ (fat fullShare (tyRef erased mut (tyInt w16)) l₈ 0 (vptr b₂ o₂)) ∷ ‵ (fdies (tyRef erased mut (tyInt w16)) l₈)
+          ∷ ‵ (fat fullShare (tyInt w64) l₇ 0 (vint w64 (length xs))) ∷ ‵ (fdies (tyInt w64) l₇) ∷ ‵ (froom (tyInt w64) l₆ 0) ∷ ‵ (fdies (tyInt w64) l₆)
+          ∷ ‵ (froom (tyInt w64) l₅ 0) ∷ ‵ (fdies (tyInt w64) l₅) ∷ ‵ (fat fullShare (D′.mir) l₄ 0 (LL.val D.the-type D′.the-laws F))
+          ∷ ‵ (fdies (D′.mir) l₄) ∷ ‵ (fat fullShare (τ₃) l₃ 0 (s₂)) ∷ ‵ (fdies (τ₃) l₃) ∷ ‵ (fat fullShare (τ₂) l₂ 0 (s₁)) ∷ ‵ (fdies (τ₂) l₂)
+          ∷ ‵ (fat fullShare (τ₁) l₁ 0 (s₀)) ∷ ‵ (fdies (τ₁) l₁) ∷ ‵ (froom (O′.mir) l₀ 0) ∷ ‵ (fdies (O′.mir) l₀) ∷ []
 
       goes-on : Sq W Called (runs C Λ En mir′.t-5 (atRet En Post))
       goes-on =
-          assigns ! (of-opd ! (load ! (from ! (fld ! refl (stop !))) (look-in ! 23 (sub ! 1 refl (whole !))))) (from ! (stop !)) (init ! 21 refl (tt, record { fits = n-fits })) $
+          assigns ! (of-opd ! (load ! (from ! (fld ! refl (stop !))) (look-in ! 23 (sub ! 1 refl (whole !))))) (from ! (stop !))
+          (init ! 21 refl (tt, record { fits = n-fits })) $
           assigns ! (of-opd ! (lit ! tt)) (from ! (stop !)) (init ! 19 refl (tt, record { fits = lit< tt })) $
           move ! (3 ∷ []) $ fsplit ! $ drop ! $ fsplit ! $ move ! (0 ∷ 1 ∷ 4 ∷ []) $ opens-slice ! tt T.the-row xs b o $
           rewrite ! 0 (λ (l : List Entry). ‵ (row T.the-row fullShare l b o)) (sym (filled-zero F xs)) refl $
@@ -308,12 +355,21 @@ module _ {M : Type 1} (𝓤 : URA M) (H : Heap 𝓤) (A : Atoms 𝓤) (W : Given
   walk : (𝓣 : Tables 𝓤 H) → Triple 𝓤 (𝓣 .C #find) (Find 𝓤 H A at-mem run) → Triple 𝓤 (𝓣 .C #pick) (Pick 𝓤 H A at-mem run)
       → ent 𝓤 (onEntry 𝓤 H A f.signature (κ₀, (κ₁, (κ₂, tt))) (q₀, (q₁, (q₂, tt))) a vals) (WpFn 𝓤 H (𝓣 .C) (𝓣 .Λ) code.function (s₀ ∷ s₁ ∷ s₂ ∷ []) Post)
   walk 𝓣 known-find known-pick =
-      qed W ((‵ (flft κ₀ q₀) ⊛ (‵ (flft κ₁ q₁) ⊛ (‵ (flft κ₂ q₂) ⊛ ‵ ftrue))) ∷ ‵ (owns (ShrSlice (named 0) κ₀ u8 ∷ MutSlice (named 1) κ₁ T.the-row ∷ MutSlice (named 2) κ₂ (SInt w16) ∷ []) a vals) ∷ []) ∵ enter ! (𝓣 .C) (𝓣 .Λ) code.function (s₀ ∷ s₁ ∷ s₂ ∷ []) _ $
-      alloc1 ! (λ l₀. alloc1 ! (λ l₁. alloc1 ! (λ l₂. alloc1 ! (λ l₃. alloc1 ! (λ l₄. alloc1 ! (λ l₅. alloc1 ! (λ l₆. alloc1 ! (λ l₇. alloc1 ! (λ l₈. alloc1 ! (λ l₉. alloc1 ! (λ l₁₀. alloc1 ! (λ l₁₁. alloc1 ! (λ l₁₂. alloc1 ! (λ l₁₃. alloc0 ! $ params1 ! $
-      pass1 ! (init ! 24 refl (tt, (tt, (record { fits = room₀ .0 }, tt)))) $ pass1 ! (init ! 22 refl (tt, (tt, (record { fits = room₁ .0 }, tt)))) $ pass1 ! (init ! 20 refl (tt, (tt, (record { fits = room₂ .0 }, tt)))) $ pass0 ! $
-      assigns ! (of-opd ! (load ! (from ! (fld ! refl (stop !))) (look-in ! 22 (sub ! 1 refl (whole !))))) (from ! (stop !)) (init ! 12 refl (tt, record { fits = room₁ .0 })) $
+      qed W ((‵ (flft κ₀ q₀) ⊛ (‵ (flft κ₁ q₁) ⊛ (‵ (flft κ₂ q₂) ⊛ ‵ ftrue)))
+      ∷ ‵ (owns (ShrSlice (named 0) κ₀ u8 ∷ MutSlice (named 1) κ₁ T.the-row ∷ MutSlice (named 2) κ₂ (SInt w16) ∷ []) a vals) ∷ []) ∵ enter ! (𝓣 .C) (𝓣 .Λ)
+      code.function (s₀ ∷ s₁ ∷ s₂ ∷ []) _ $
+      alloc1 ! (λ l₀. alloc1 ! (λ l₁. alloc1 !
+      (λ l₂. alloc1 ! (λ l₃. alloc1 !
+      (λ l₄. alloc1 ! (λ l₅. alloc1 !
+      (λ l₆. alloc1 ! (λ l₇. alloc1 ! (λ l₈. alloc1 ! (λ l₉. alloc1 ! (λ l₁₀. alloc1 ! (λ l₁₁. alloc1 ! (λ l₁₂. alloc1 ! (λ l₁₃. alloc0 ! $ params1 ! $
+      pass1 ! (init ! 24 refl (tt, (tt, (record { fits = room₀ .0 }, tt)))) $ pass1 ! (init ! 22 refl (tt, (tt, (record { fits = room₁ .0 }, tt)))) $
+      pass1 ! (init ! 20 refl (tt, (tt, (record { fits = room₂ .0 }, tt)))) $ pass0 ! $
+      assigns ! (of-opd ! (load ! (from ! (fld ! refl (stop !))) (look-in ! 22 (sub ! 1 refl (whole !))))) (from ! (stop !))
+      (init ! 12 refl (tt, record { fits = room₁ .0 })) $
       assigns ! (addr ! (from ! (fld ! refl (hop ! (look-in ! 20 (sub ! 0 refl (whole !))) (stop !))))) (from ! (stop !)) (init ! 10 refl (tt, tt)) $
-      assigns ! (agg ! (and-then ! (load ! (from ! (stop !)) (look ! 10 refl)) (and-then ! (load ! (from ! (fld ! refl (stop !))) (look-in ! 20 (sub ! 1 refl (whole !)))) (no-more !)))) (from ! (stop !)) (init ! 8 refl (tt, (tt, (record { fits = room₂ .0 }, tt)))) $
+      assigns ! (agg ! (and-then ! (load ! (from ! (stop !)) (look ! 10 refl))
+      (and-then ! (load ! (from ! (fld ! refl (stop !))) (look-in ! 20 (sub ! 1 refl (whole !)))) (no-more !)))) (from ! (stop !))
+      (init ! 8 refl (tt, (tt, (record { fits = room₂ .0 }, tt)))) $
       -- `find` is called, with two tokens, a copy of what the file owns, and the taps' borrow
       move ! (29 ∷ []) $ fsplit ! $ use1 W (‵ own₀ ⊛ ‵ own₀) (shr-slice-copy 𝓤 H A W (named 0) κ₀ u8 .twice x₀ (s₀ ∷ [])) $ split ! $
       move ! (2 ∷ []) $ fsplit ! $ move ! (1 ∷ []) $ fsplit ! $ move ! (1 ∷ []) $ drop ! $
@@ -321,32 +377,49 @@ module _ {M : Type 1} (𝓤 : URA M) (H : Heap 𝓤) (A : Atoms 𝓤) (W : Given
       move ! (32 ∷ []) $ split ! $ move ! (1 ∷ []) $ split ! $ move ! (2 ∷ 1 ∷ []) $ join ! $ move ! (4 ∷ 2 ∷ []) $ join ! $ move ! (1 ∷ 0 ∷ []) $
       use2 W (raw (Find 𝓤 H A at-mem run .pre to-find)) goes-find $
       -- [what `find` asks; token 1; the list; the file; _13; …]
-      calls-at ! (fmOf 𝓤 H (W .laws) 𝓣) (Find 𝓤 H A at-mem run) known-find to-find (and-then ! (load ! (from ! (stop !)) (look ! 28 refl)) (and-then ! (load ! (from ! (stop !)) (look ! 16 refl)) (and-then ! (load ! (from ! (stop !)) (look ! 12 refl)) (no-more !)))) (λ u.
-      use1 W (later (some (λ (r : Found). (tokens ⊛ ‵ (D.the-row .own r (u ∷ []))) ⊛ raw (ensured 𝓤 H A find.ended (find.clauses 𝓤 H A at-mem run) (κ₀, (κ₂, tt)) passed tt r)))) (id⊢ 𝓤 _) $ await ! tt $ pick ! (λ r.
-      split ! $ move ! (1 ∷ []) $ use1 W (some (λ (zs : Unit {0} × (Unit {0} × (List ℤ × Unit {0}))). ‵ (lasts find.ended (κ₀, (κ₂, tt)) passed zs) ⊛ raw (fact 𝓤 (FoundIs (now x₀) (length xs) ys r (zs .1 .1 .0))))) (id⊢ 𝓤 _) $ pick ! (λ zs.
-      split ! $ move ! (1 ∷ []) $ heard ! (FoundIs (now x₀) (length xs) ys r (zs .1 .1 .0)) (λ e. fsplit ! $ drop ! $ fsplit ! $ drop ! $ fsplit ! $ fsplit ! $ move ! (1 ∷ []) $ feqL ! (λ same. move ! (1 ∷ []) $ drop ! $
+      calls-at ! (fmOf 𝓤 H (W .laws) 𝓣) (Find 𝓤 H A at-mem run) known-find to-find
+      (and-then ! (load ! (from ! (stop !)) (look ! 28 refl))
+      (and-then ! (load ! (from ! (stop !)) (look ! 16 refl)) (and-then ! (load ! (from ! (stop !)) (look ! 12 refl)) (no-more !)))) (λ u.
+      use1 W (later (some (λ (r : Found). (tokens ⊛ ‵ (D.the-row .own r (u ∷ []))) ⊛ raw
+      (ensured 𝓤 H A find.ended (find.clauses 𝓤 H A at-mem run) (κ₀, (κ₂, tt)) passed tt r)))) (id⊢ 𝓤 _) $ await ! tt $ pick ! (λ r.
+      split ! $ move ! (1 ∷ []) $ use1 W
+      (some (λ (zs : Unit {0} × (Unit {0} × (List ℤ × Unit {0}))). ‵ (lasts find.ended (κ₀, (κ₂, tt)) passed zs) ⊛ raw
+      (fact 𝓤 (FoundIs (now x₀) (length xs) ys r (zs .1 .1 .0))))) (id⊢ 𝓤 _) $ pick ! (λ zs.
+      split ! $ move ! (1 ∷ []) $ heard ! (FoundIs (now x₀) (length xs) ys r (zs .1 .1 .0))
+      (λ e. fsplit ! $ drop ! $ fsplit ! $ drop ! $ fsplit ! $ fsplit ! $ move ! (1 ∷ []) $ feqL ! (λ same. move ! (1 ∷ []) $ drop ! $
       -- [the last taps; tokens and result; token 1; the list; the file; _13; …]
       move ! (1 ∷ []) $ split ! $ move ! (1 ∷ []) $
       peeks ! D.the-row (Is D.the-row) (shows 𝓤 H A D.the-row) r (u ∷ []) (λ is. drop ! $
       -- [tokens 0 and 2; the last taps; token 1; the list; the file; _13; …]
       land ! (from ! (stop !)) (init ! 23 refl (LL.lawful D.the-type D′.the-laws 𝓤 H A W .typed r _ is .0)) $
       rewrite ! 23 (λ (w : Val). ‵ (fat fullShare D′.mir l₄ 0 w)) (ap only (LL.tells D.the-type D′.the-laws r (u ∷ []) is)) refl $
-      goes-on r (zs .1 .1 .0) e same (subst (Is D.the-row r) (LL.tells D.the-type D′.the-laws r (u ∷ []) is) is) (LL.owed D.the-type D′.the-laws r (u ∷ []) is .1 .0 .1) 𝓣 known-pick l₀ l₁ l₂ l₃ l₄ l₅ l₆ l₇ l₈ l₉ l₁₀ l₁₁ l₁₂ l₁₃))))))))))))))))))))
+      goes-on r (zs .1 .1 .0) e same (subst (Is D.the-row r) (LL.tells D.the-type D′.the-laws r (u ∷ []) is) is)
+      (LL.owed D.the-type D′.the-laws r (u ∷ []) is .1 .0 .1) 𝓣 known-pick l₀ l₁ l₂ l₃ l₄ l₅ l₆ l₇ l₈ l₉ l₁₀ l₁₁ l₁₂ l₁₃))))))))))))))))))))
 
 module _ {M : Type 1} (𝓤 : URA M) (H : Heap 𝓤) (A : Atoms 𝓤) (W : Given 𝓤 H A) (at-mem : Memory → SProp 𝓤) (run : Routine → Fun 𝓤) (𝓣 : Tables 𝓤 H)
     (known-find : Triple 𝓤 (𝓣 .C #find) (Find 𝓤 H A at-mem run)) (known-pick : Triple 𝓤 (𝓣 .C #pick) (Pick 𝓤 H A at-mem run)) where
   read-walks : Walks 𝓤 H A f.ended stayed (WpFn 𝓤 H (𝓣 .C) (𝓣 .Λ) code.function) (f.clauses 𝓤 H A at-mem run)
   read-walks = walked 𝓤 H A f.ended stayed (f.clauses 𝓤 H A at-mem run) (WpFn 𝓤 H (𝓣 .C) (𝓣 .Λ) code.function)
-      (λ κs. (slice-vals, (slice-vals, (slice-vals, tt)))) (λ κs. (shr-slice-tells (named 0) (κs .0) u8, (mut-slice-tells (named 1) (κs .1 .0) T.the-row, (mut-slice-tells (named 2) (κs .1 .1 .0) (SInt w16), tt))))
+      (λ κs. (slice-vals, (slice-vals, (slice-vals, tt))))
+      (λ κs. (
+        shr-slice-tells (named 0) (κs .0) u8,
+        (mut-slice-tells (named 1) (κs .1 .0) T.the-row, (mut-slice-tells (named 2) (κs .1 .1 .0) (SInt w16), tt)),
+      ))
       (λ κs qs bounds a g are. via 𝓤 _ (fst∗ 𝓤 _ (emp 𝓤))
-      (walk 𝓤 H A W at-mem run (κs .0) (κs .1 .0) (κs .1 .1 .0) (qs .0) (qs .1 .0) (qs .1 .1 .0) (a .0) (a .1 .0 .ptr .0) (a .1 .0 .ptr .1) (a .1 .0 .name) (a .1 .0 .now) (a .1 .1 .0 .ptr .0) (a .1 .1 .0 .ptr .1) (a .1 .1 .0 .name) (a .1 .1 .0 .now)
+      (walk 𝓤 H A W at-mem run (κs .0) (κs .1 .0) (κs .1 .1 .0) (qs .0) (qs .1 .0) (qs .1 .1 .0) (a .0) (a .1 .0 .ptr .0) (a .1 .0 .ptr .1) (a .1 .0 .name)
+      (a .1 .0 .now) (a .1 .1 .0 .ptr .0) (a .1 .1 .0 .ptr .1) (a .1 .1 .0 .name) (a .1 .1 .0 .now)
       (are .0 .0 .1) (are .1 .0 .0 .1) (are .1 .1 .0 .0 .1) 𝓣 known-find known-pick))
 
   goes : AllGo 𝓤 H A W 3 (f.signature .params) (f.ended .kept) stayed
-  goes = (goes-none-slice 𝓤 H A W 3 (0 ∷ []) tt (plain (λ _. u8)) yes, (goes-slice 𝓤 H A W 3 1 tt (plain (λ _. T.the-row)), (goes-gave-slice 𝓤 H A W 3 2 tt (plain (λ _. SInt w16)), tt)))
+  goes = (
+    goes-none-slice 𝓤 H A W 3 (0 ∷ []) tt (plain (λ _. u8)) yes,
+    (goes-slice 𝓤 H A W 3 1 tt (plain (λ _. T.the-row)), (goes-gave-slice 𝓤 H A W 3 2 tt (plain (λ _. SInt w16)), tt)),
+  )
 
   read-meets : Meets 𝓤 H A f.signature (WpFn 𝓤 H (𝓣 .C) (𝓣 .Λ) code.function) (f.spec 𝓤 H A at-mem run)
-  read-meets = walk-meets 𝓤 H A f.ended stayed W goes (f.clauses 𝓤 H A at-mem run) (WpFn 𝓤 H (𝓣 .C) (𝓣 .Λ) code.function) (WpFn-mono 𝓤 H (W .laws) 𝓣 code.function) read-walks
+  read-meets =
+      walk-meets 𝓤 H A f.ended stayed W goes (f.clauses 𝓤 H A at-mem run) (WpFn 𝓤 H (𝓣 .C) (𝓣 .Λ) code.function) (WpFn-mono 𝓤 H (W .laws) 𝓣 code.function)
+      read-walks
 
 pub read-list-spec : {M : Type 1} → stated.statement M
 unfolding code.routine tablesOf
