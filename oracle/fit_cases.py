@@ -89,9 +89,13 @@ def refused(values):
     yield "refused"
 
 
+def value_lines(data):
+    """The number and the text of each value line."""
+    return [(n, line) for n, line in enumerate(data.decode("latin-1").split("\n"), 1) if line and not line.startswith("#")]
+
+
 def report(data):
-    text = data.decode("latin-1")
-    values = [(n, line) for n, line in enumerate(text.split("\n"), 1) if line and not line.startswith("#")]
+    values = value_lines(data)
     if len(data) > 16384:
         return ["refused 4: the file is above 16384 bytes; give a fitting file, or take out comments", "refused"]
     if len(values) > 64:
@@ -127,13 +131,18 @@ UNREAD = {
     "": "no file:  cannot be opened; check its name and that it may be read",
 }
 
-os.makedirs(FOLDER + "/data", exist_ok=True)
-out = []
-for name, text in FILES.items():
-    with open(f"{FOLDER}/data/{name}", "wb") as file:
-        file.write(text.encode("latin-1"))
-    out += [f"== {name}"] + report(text.encode("latin-1"))
-for name, line in UNREAD.items():
-    out += [f"== {name}", line, "refused"]
-with open(f"{FOLDER}/stdout", "w", newline="\n") as file:
-    file.write("".join(line + "\n" for line in out))
+
+def written(folder, files, said, more):
+    """Writes the files into the folder's data, and what is said of them, and more, into its stdout."""
+    os.makedirs(folder + "/data", exist_ok=True)
+    out = []
+    for name, text in files.items():
+        with open(f"{folder}/data/{name}", "wb") as file:
+            file.write(text.encode("latin-1"))
+        out += [f"== {name}"] + said(text.encode("latin-1"))
+    with open(f"{folder}/stdout", "w", newline="\n") as file:
+        file.write("".join(line + "\n" for line in out + more))
+
+
+if __name__ == "__main__":
+    written(FOLDER, FILES, report, [line for name, why in UNREAD.items() for line in (f"== {name}", why, "refused")])
