@@ -1,5 +1,5 @@
 -- What each public function promises of its answer r, by name, and that the promise leaves nothing open: two answers
--- that meet it are equal, and two slices stand at the unique place and have the unique bytes. Assumes nothing.
+-- that meet it are equal, and two slices stand at the same place and have the same bytes. Assumes nothing.
 use mathlib.Core.Path.{_≡_}
 use mathlib.Core.List.{List}
 use Prim.Native.Nat.{ℕ, _-_}

@@ -38,7 +38,7 @@ pub trimmed-digits : (t : List ℕ) → digitsOf (trimmed t) ≡ digitsOf t
 unfolding trimmed
 trimmed-digits t = back-digits (dropWhile isUnd t) ∙ front-digits t
 
--- ---- "Dropped bytes in front, view, and dropped bytes behind make up the wholeRun run again"
+-- ---- "Dropped bytes in front, view, and dropped bytes behind make up the whole run again"
 pub new-whole : (t : List ℕ) → wholeRun (newPart t) ≡ t
 unfolding trimmed undsFront undsBack
 new-whole t = ap (λ (l : List ℕ). takeWhile isUnd t ++ l) (back-whole isUnd (dropWhile isUnd t)) ∙ while-whole isUnd t

@@ -1,5 +1,5 @@
 -- What each public function promises of its answer r, by name, and what the promise leaves open: an answer is settled
--- by the digits that it stands for, so two answers that meet it stand for the unique ones. Assumes nothing.
+-- by the digits that it stands for, so two answers that meet it stand for the same ones. Assumes nothing.
 use mathlib.Core.Path.{_≡_}
 use mathlib.Core.List.{List}
 use Prim.Native.Nat.{ℕ}

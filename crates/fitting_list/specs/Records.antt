@@ -43,7 +43,7 @@ zero-places = replicate mostTaps 0
 abbrev pub signed-zeros : List ℤ
 signed-zeros = replicate mostTaps (pos 0)
 
--- the arrays start as zero-places
+-- the arrays start as zeros
 pub record FoundIs (file : List ℕ) (room : ℕ) (taps : List ℤ) (r : Found) (taps' : List ℤ) : Type 0 where
   pub lists : fitted (r .outcome) (r .lines) (r .raws) (r .answers) taps' ≡ roomyOf room room room file zero-places signed-zeros zero-places taps
   pub count : r .n ≡ countOf file room (length taps)

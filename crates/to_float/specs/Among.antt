@@ -264,7 +264,7 @@ within-raw p w n f room word h =
     let ones : 2 ^ p ≤ 2 ^ (p + 1) - 1 = omega (arith, pow-add 2 p 1, pow-pos p) in
     omega (arith, mul-le-mul (mul-le-mul high ones) (pow-pos f), mul-lt-mul-of-pos-right word (pow-pos p))
 
--- what `toOf` answers for the raw a
+-- what `toFloatOf` answers for the raw a
 pub nearest-raw : (p w : ℕ) → Roomy p w → (a : ℤ) (f : ℕ) → natAbs a < 2 ^ 64
     → NearestOf (binary p w) f a (ltZ a (pos 0)) (patternOf (binary p w) (ltZ a (pos 0)) (natAbs a) f)
 nearest-raw p w room a f word =

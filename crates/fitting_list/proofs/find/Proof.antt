@@ -1,4 +1,4 @@
--- `fitting_list::find` meets its contract, as `read` does, with arrays of zero-places for the list. Assumes nothing.
+-- `fitting_list::find` meets its contract, as `read` does, with arrays of zeros for the list. Assumes nothing.
 use mathlib.Core.Path.{ap}
 use native.Mathlib.Omega.{arith}
 use lib.ListN.{length}
