@@ -135,7 +135,7 @@ def settled(crate, row):
         laws = [law for span in spans(said[0]) for law in spelled(span)] if said else []
         if said and said[0].startswith("an equation"):
             ensures = "".join(re.findall(r"ensures \{ λ [r_]\. ⌜(.*?)⌝", contract, re.S)).strip()
-            see(re.match(r"(now )?r ≡ |[A-Z]", ensures) or re.match(r"now \(\w+ \.exit\) ≡ ", ensures), f"docs/promises/{crate.name}.md: the contract of {full} is no equation")
+            see(re.match(r"(now )?r ≡ |now \(\w+ \.exit\) ≡ ", ensures), f"docs/promises/{crate.name}.md: the contract of {full} is no equation")
         else:
             opened = said and said[0].startswith("open:")
             see((laws or opened) and all(law in declared for law in laws), f"docs/promises/{crate.name}.md: what settles the answer of {full}? ({said})")

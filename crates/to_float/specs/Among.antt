@@ -15,10 +15,11 @@ use lib.Pow.{pow-pos, pow-mono, pow-add}
 use lib.Signed.{ltZ}
 use borrow.Author.Tests.{lt-ltb}
 use Rattle.laws.specs.Bound.{abs-neg}
-use Rattle.laws.specs.Diff.{up, dn, sub-out, up-neg, dn-neg}
+use Rattle.laws.specs.Diff.{up, dn, sub-out}
 use Rattle.laws.specs.Order.{mul-out}
 use Rattle.laws.specs.Powers.{double}
 use Rattle.format.specs.Meaning.{withSign}
+use Rattle.format.specs.Place.{sign-out}
 use Rattle.float.specs.Meaning.{Binary, binary32, binary64, bias, least, negative, biased, trailing}
 use Rattle.float.specs.Meaning.{nan, infinite, finite, ofFields, patternValue}
 use Rattle.float.specs.Parts.{binary}
@@ -95,11 +96,6 @@ finite-short b y s k some = go (eqb e (2 ^ b .field - 1)) (eqb t 0) (eqb e 0)
 abs-gap : (z : ℤ) (a b : ℕ) → up z + b ≡ a + dn z → natAbs z ≡ gap a b
 abs-gap (pos n) a b e = omega arith
 abs-gap (negsuc n) a b e = omega arith
-
-sign-out : (s : Bool) (n : ℕ) → (up (withSign s n) ≡ cond s 0 n) × (dn (withSign s n) ≡ cond s n 0)
-unfolding withSign
-sign-out true n = (up-neg (pos n), dn-neg (pos n))
-sign-out false n = (refl, refl)
 
 sign-abs : (s : Bool) (n : ℕ) → natAbs (withSign s n) ≡ n
 unfolding withSign

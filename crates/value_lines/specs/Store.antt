@@ -8,6 +8,7 @@ use native.Mathlib.Omega.{arith}
 use lib.IntN.{ℤ}
 use lib.ListN.{length, drop, getD, set, length-map, length-drop, List·getD-map}
 use lib.Seq.{getD-drop, drop-drop}
+use Rattle.laws.specs.Unique.{unique}
 use Rattle.value_lines.specs.declared.line.Value.{Value}
 use Rattle.value_lines.specs.Meaning.{isValue, ValueLine, valueLine, valuesOf, lineNumber, rawAt, numberAt, over}
 use Rattle.value_lines.specs.Held.{Held, held-none, held-more, held-all}
@@ -36,6 +37,12 @@ pub record AllEntered (vs : List ValueLine) (lines : List ℕ) (raws : List ℤ)
   pub lines-are : lines' ≡ over (map lineNumber vs) lines
   pub raws-are : raws' ≡ over (map rawAt vs) raws
   pub answers-are : answers' ≡ over (map numberAt vs) answers
+
+-- that settles the three slices
+pub all-entered-unique : {vs : List ValueLine} {lines : List ℕ} {raws : List ℤ} {answers l m : List ℕ} {r s : List ℤ} {a b : List ℕ}
+    → AllEntered vs lines raws answers l r a → AllEntered vs lines raws answers m s b → (l ≡ m) × ((r ≡ s) × (a ≡ b))
+all-entered-unique p q =
+    (unique (p .lines-are) (q .lines-are), (unique (p .raws-are) (q .raws-are), unique (p .answers-are) (q .answers-are)))
 
 -- the lines before place `at` are through: `number` lines, n of them values
 pub record SoFar (file lines : List ℕ) (raws : List ℤ) (answers lines' : List ℕ) (raws' : List ℤ) (answers' : List ℕ) (n number at : ℕ) : Type 0 where
