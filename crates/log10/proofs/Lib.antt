@@ -1,5 +1,6 @@
 -- What the proofs of more than one function use.
+mod Compare
 mod Entry
-mod Guess
-mod Parts
+mod Leading
+mod Mend
 mod Rest

@@ -11,7 +11,7 @@ use lib.ListN.{length, take, drop, replicate, length-append, length-replicate}
 use lib.Pow.{pow-pos}
 use lib.Seq.{take-length}
 use Rattle.laws.specs.Nearest.{nearestEven}
-use Rattle.laws.specs.Powers.{power-sub}
+use Rattle.laws.specs.Powers.{power-sub, ten-power}
 use Rattle.grammar.specs.Meaning.{rawOf}
 use Rattle.grammar.specs.Naturals.{natOf}
 use Rattle.fold.specs.declared.Folded.{Folded}
@@ -25,10 +25,6 @@ use Rattle.tens.specs.Prefix.{firstRaw, leadOf, first-rounds, twenty-zer
 use Rattle.tens.specs.Point.{decimal, point-past, point-up, point-down, point-split, point-length}
 
 -- ---- zeros after the digits
-ten-power : (k : ℕ) → 10 ^ k ≡ 5 ^ k * 2 ^ k
-ten-power zero = simp pow-zero
-ten-power (suc k) = simp pow-suc (omega (arith, ten-power k))
-
 pub lift-far : (v z : ℕ) → 64 ≤ z → foldOf (v * 2 ^ 64) ≡ foldOf (v * 10 ^ z)
 lift-far v z far = go (decLe 1 v)
   where

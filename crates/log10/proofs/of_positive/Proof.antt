@@ -1,63 +1,49 @@
--- The logarithm of the whole part, or of the fraction where there is none, is the value's (`Parts.antt`); `minus` gives it its sign.
+-- The guess of the raw's leading zeros (`Leading.antt`) and one more where the next power of ten is reached (`Mend.antt`).
 use borrow.Author.Needs.{needs}
-use mathlib.Core.Path.{_≡_, _∙_}
-use native.Mathlib.Nat.{mul-pos}
-use lib.Pow.{pow-pos}
-use lib.IntN.{pos, negℤ}
+use mathlib.Core.Path.{_∙_}
+use mathlib.Core.Bool.{Bool, true, false}
+use Prim.Native.Nat.{_≤_}
+use native.Mathlib.Omega.{arith}
+use lib.Count.{leading-top}
 use mir.Syntax.{w64}
-use Rattle.laws.specs.Diff.{sub-out, up-neg, dn-neg, orders}
+use mir.Val.{boolByte}
 use Rattle.laws.specs.Signed.{ok-back}
-use Rattle.log10.proofs.Parts.{whole-log, frac-log, no-whole}
+use Rattle.log10.proofs.Leading.{fives-fit}
+use Rattle.log10.proofs.Mend.{mended}
 use Rattle.log10.proofs.of_positive.Statement.{statement}
 use Rattle.log10.proofs.of_positive.Tie as tie
 
-int-of-requires : tie.Need-int-of-requires
-int-of-requires c κs = search needs
+guess-requires : tie.Need-guess-requires
+guess-requires c κs = (omega (arith, leading-top 64 (c .args .raw) (c .pre .0) (c .fits .raw .fits) .1), c .pre .1)
 
-ilog10-requires : tie.Need-ilog10-requires
-ilog10-requires c κs = search needs
+next-reached-requires : tie.Need-next-reached-requires
+next-reached-requires c κs =
+    let a = c .before in
+    let e = c .guess .ensures in
+    let fit = fives-fit (a .args .raw) (a .args .frac) (c .guess .result) (a .pre .0) (a .fits .raw .fits) (a .pre .1) (e .0, e .1) in
+    (e .2, e .3, e .4, fit)
+
+cast-minus : tie.Need-cast-minus
+cast-minus c = search needs
+
+one-at-most : (t : Bool) → boolByte t ≤ 1
+one-at-most true = omega arith
+one-at-most false = omega arith
+
+add-minus : tie.Need-add-minus
+add-minus c = omega (arith, one-at-most (c .next-reached .result), c .before .guess .ensures)
 
 minus-requires : tie.Need-minus-requires
 minus-requires c κs = search needs
 
 returns : tie.Need-returns
 returns c =
-    let a = c .before .before .before .before in
-    let e = c .before .before .before .int-of .ensures in
-    let n = c .before .ilog10 .result in
-    let k : c .minus .result ≡ pos n = omega (orders, c .minus .ensures, sub-out (pos n) (pos 0)) in
-    ok-back w64 (c .minus .result) (c .minus .ok) ∙ k
-    ∙ whole-log (a .args .raw) (a .args .frac) (a .pre .0) (a .fits .raw .fits) (a .pre .1) n (rw e at (c .before .ilog10 .ensures))
-
-frac-of-requires : tie.Need-frac-of-requires
-frac-of-requires c κs =
-    let a = c .before .before in
-    (a .pre .0, no-whole (a .args .raw) (a .args .frac) (c .before .int-of .ensures) (c .if1 .left), a .pre .1)
-
-frac-log10-requires : tie.Need-frac-log10-requires
-frac-log10-requires c κs = rw (c .frac-of .ensures) (mul-pos (c .before .before .before .pre .0) (pow-pos _))
-
-minus-requires-2 : tie.Need-minus-requires-2
-minus-requires-2 c κs = search needs
-
-returns-2 : tie.Need-returns-2
-returns-2 c =
-    let a = c .before .before .before .before .before in
-    let e = c .before .before .frac-of .ensures in
-    let m = c .before .frac-log10 .result in
-    let k : c .minus2 .result ≡ negℤ (pos m) = omega (orders, c .minus2 .ensures, sub-out (pos 0) (pos m), up-neg (pos m), dn-neg (pos m)) in
-    ok-back w64 (c .minus2 .result) (c .minus2 .ok) ∙ k
-    ∙ frac-log (a .args .raw) (a .args .frac) (a .pre .0) (a .fits .raw .fits) (a .pre .1) m (rw e at (c .before .frac-log10 .ensures))
+    let a = c .before .before .before in
+    let g = c .before .before .guess in
+    let e = g .ensures in
+    let t = c .before .next-reached in
+    ok-back w64 (c .minus .result) (c .minus .ok) ∙ c .minus .ensures
+    ∙ mended (a .args .raw) (a .args .frac) (g .result) (a .pre .0) (a .fits .raw .fits) (a .pre .1) (e .0, e .1) (t .result) (t .ensures)
 
 pub of-positive-spec : {M : Type 1} → statement M
-of-positive-spec =
-    tie.close
-    (tie.spec
-    int-of-requires
-    ilog10-requires
-    minus-requires
-    returns
-    frac-of-requires
-    frac-log10-requires
-    minus-requires-2
-    returns-2)
+of-positive-spec = tie.close (tie.spec guess-requires next-reached-requires cast-minus add-minus minus-requires returns)
