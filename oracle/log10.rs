@@ -181,40 +181,45 @@ fn s_32<const F: u32>(raw: u64) -> i32 {
     s_u32(raw as u32, F)
 }
 
-/// Width, fraction bits, and S with these as constants.
-const TIMED: [(u32, u32, fn(u64) -> i32); 6] = [
-    (16, 16, s_16::<16>),
-    (16, 15, s_16::<15>),
-    (16, 8, s_16::<8>),
-    (32, 32, s_32::<32>),
-    (32, 16, s_32::<16>),
-    (32, 0, s_32::<0>),
+/// Width, fraction bits, and a pass of S, which has these as constants.
+const TIMED: [(u32, u32, fn(&[u64]) -> f64); 6] = [
+    (16, 16, |raws| each(raws, s_16::<16>)),
+    (16, 15, |raws| each(raws, s_16::<15>)),
+    (16, 8, |raws| each(raws, s_16::<8>)),
+    (32, 32, |raws| each(raws, s_32::<32>)),
+    (32, 16, |raws| each(raws, s_32::<16>)),
+    (32, 0, |raws| each(raws, s_32::<0>)),
 ];
 
-const PASSES: usize = 60;
-const RAWS: usize = 50_000;
+const RAWS: usize = 1_000_000;
 
-fn time(kind: &str, mut raw: impl FnMut(u32) -> u64) {
+/// A line for each format: the medians of the rounds. `raw` makes a raw of a width and a number of fraction bits.
+fn time(rounds: usize, kind: &str, mut raw: impl FnMut(u32, u32) -> u64) {
     for (width, frac, of_s) in TIMED {
-        let raws: Vec<u64> = (0..RAWS).map(|_| raw(width).max(1)).collect();
+        let raws: Vec<u64> = (0..RAWS).map(|_| raw(width, frac).max(1)).collect();
         let (ours, theirs) = in_turns(
-            PASSES,
+            rounds,
             || each(&raws, |raw| unsafe { tq_log10_unsigned(raw, width, frac).value }),
-            || each(&raws, of_s),
+            || of_s(&raws),
         );
-        let (ours, theirs) = (ours.fastest(), theirs.fastest());
+        let (ours, theirs) = (ours.median(), theirs.median());
         println!("time W {width} F {frac}, {kind}: ours {ours:.2} ns, S {theirs:.2} ns, ratio {:.2}", ours / theirs);
     }
 }
 
+/// `log10 [ROUNDS]`: with 0 nothing is timed.
 fn main() {
+    let rounds = std::env::args().nth(1).map_or(15, |n| n.parse().expect("ROUNDS is a number"));
     let mut t = Tally::default();
     narrow(&mut t);
     near_powers(&mut t);
     at_random(&mut t);
     no_formats(&mut t);
-    let mut random = Random::new(99);
-    time("every raw alike", |width| random.next() >> (64 - width));
-    time("every size alike", |width| random.sized(width));
+    if rounds > 0 {
+        let mut random = Random::new(99);
+        time(rounds, "uniform raws", |width, _| random.next() >> (64 - width));
+        time(rounds, "log-uniform raws", |width, _| random.sized(width));
+        time(rounds, "log-uniform raws below one", |_, frac| random.sized(frac.max(1)));
+    }
     t.close()
 }

@@ -4,7 +4,7 @@ ghost use Prim.Native.Nat.{_+_, _-_, _*_, _^_, _≤_, _<_};
 ghost use lib.IntN.{pos, _-ℤ_};
 ghost use Rattle.log10.specs.Meaning.{reaches, log10Of};
 
-mod five;
+mod fives;
 pub mod signed;
 pub mod unsigned;
 
@@ -38,8 +38,8 @@ fn next_reached(raw: u64, frac: u32, guess: u32) -> bool
     requires { ⌜ (guess < 39) × (20 ≤ frac + guess) × (frac + guess < 84) × (raw * 5 ^ (19 - guess) < 2 ^ 64) ⌝ }
     ensures { λ r. ⌜ r ≡ reaches raw frac (pos guess -ℤ pos 19) ⌝ }
 {
-    let fives = raw * five::five(38 - guess);
-    fives / 2 >> (frac + guess - 20) >= five::five(guess)
+    let fives = fives::fives(guess);
+    raw * fives[0] / 2 >> (frac + guess - 20) >= fives[1]
 }
 
 // a - b, as a signed number.

@@ -1,12 +1,14 @@
 -- The guess of the raw's leading zeros (`Leading.antt`) and one more where the next power of ten is reached (`Mend.antt`).
 use borrow.Author.Needs.{needs}
-use mathlib.Core.Path.{_∙_}
+use mathlib.Core.Path.{_≡_, _∙_}
 use mathlib.Core.Bool.{Bool, true, false}
-use Prim.Native.Nat.{_≤_}
+use Prim.Native.Nat.{_+_, _≤_}
 use native.Mathlib.Omega.{arith}
 use lib.Count.{leading-top}
+use lib.IntN.{pos, _-ℤ_}
 use mir.Syntax.{w64}
 use mir.Val.{boolByte}
+use Rattle.laws.specs.Diff.{sub-out, orders}
 use Rattle.laws.specs.Signed.{ok-back}
 use Rattle.log10.proofs.Leading.{fives-fit}
 use Rattle.log10.proofs.Mend.{mended}
@@ -42,8 +44,12 @@ returns c =
     let g = c .before .before .guess in
     let e = g .ensures in
     let t = c .before .next-reached in
-    ok-back w64 (c .minus .result) (c .minus .ok) ∙ c .minus .ensures
+    let n = g .result + boolByte (t .result) in
+    let k : c .minus .result ≡ pos n -ℤ pos 20 = omega (orders, c .minus .ensures, sub-out (pos n) (pos 20)) in
+    ok-back w64 (c .minus .result) (c .minus .ok) ∙ k
     ∙ mended (a .args .raw) (a .args .frac) (g .result) (a .pre .0) (a .fits .raw .fits) (a .pre .1) (e .0, e .1) (t .result) (t .ensures)
 
 pub of-positive-spec : {M : Type 1} → statement M
-of-positive-spec = tie.close (tie.spec guess-requires next-reached-requires cast-minus add-minus minus-requires returns)
+of-positive-spec =
+    tie.close
+    (tie.spec guess-requires next-reached-requires cast-minus add-minus minus-requires returns)

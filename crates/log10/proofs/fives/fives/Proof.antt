@@ -1,12 +1,16 @@
--- Each arm has the value at its own number, which computes; the last is none of the numbers that are asked for (`Rest.antt`).
+-- Each arm has the values at its own number, which compute; the last is none of the numbers that are asked for (`Rest.antt`).
 use mathlib.Core.Path.{_≡_, sym, ap}
+use mathlib.Core.List.{List, [], _∷_}
 use Prim.Native.Nat.{ℕ, _-_, _^_}
 use Rattle.log10.proofs.Rest.{none}
-use Rattle.log10.proofs.five.five.Statement.{statement}
-use Rattle.log10.proofs.five.five.Tie as tie
+use Rattle.log10.proofs.fives.fives.Statement.{statement}
+use Rattle.log10.proofs.fives.fives.Tie as tie
 
-at : {k n : ℕ} → k ≡ n → 5 ^ (n - 19) ≡ 5 ^ (k - 19)
-at e = ap (λ (n : ℕ). 5 ^ (n - 19)) (sym e)
+abbrev both : ℕ → List ℕ
+both n = 5 ^ (19 - n) ∷ 5 ^ (n - 19) ∷ []
+
+at : {k n : ℕ} → k ≡ n → both n ≡ both k
+at e = ap both (sym e)
 
 returns : tie.Need-returns
 returns c = at (c .match .keys1)
@@ -128,8 +132,8 @@ returns-39 c = at (c .match .keys39)
 returns-40 : tie.Need-returns-40
 returns-40 c = absurd (none (c .before .args .n) 39 (c .match .rest) (c .before .pre))
 
-pub five-spec : {M : Type 1} → statement M
-five-spec =
+pub fives-spec : {M : Type 1} → statement M
+fives-spec =
     tie.close
     (tie.spec
     returns
