@@ -31,7 +31,7 @@ NOTICED = {
     "double_64": word(DOUBLE, 64),
     "reciprocal": word(RECIPROCAL, 1),
     "reciprocal_less": word(RECIPROCAL, -(2**30)),
-    "power_of_ten": word(10**18, 1),
+    "power_of_ten": word(5**18, 1),  # its fives
     # cmp $imm32,%rsi: the longest text
     "limit": [(b"\x48\x81\xfe" + (4096).to_bytes(4, "little"), b"\x48\x81\xfe" + (4095).to_bytes(4, "little"))],
     # cmp $imm8,%r14b and %r15b: an underscore, the digit 9

@@ -4,12 +4,12 @@
 use mathlib.Core.Path.{_≡_, sym, ap, subst, _∙_}
 use mathlib.Core.Bool.{Bool, true, false, cond}
 use Prim.Native.Nat.{ℕ, zero, suc, _+_, _-_, _*_, _/_, _^_, _≤_, _<_}
-use native.Mathlib.Nat.{pow-zero, pow-suc, one-le-pow, mul-one}
-use native.Mathlib.Nat.{mul-le-mul-left, mul-le-mul-right, le-of-mul-le-mul-right, lt-of-mul-lt-mul-right, mul-lt-mul-of-pos-right}
+use native.Mathlib.Nat.{pow-zero, pow-suc, mul-one}
+use native.Mathlib.Nat.{mul-le-mul-right, le-of-mul-le-mul-right, lt-of-mul-lt-mul-right, mul-lt-mul-of-pos-right}
 use native.Mathlib.Numerals.{add-one}
 use native.Mathlib.Decide.{decLe}
 use native.Mathlib.Omega.{arith}
-use lib.Dec.{T, leb, ltb, leb→le, ltb→lt, lit<}
+use lib.Dec.{T, leb, ltb, leb→le, ltb→lt}
 use lib.Pow.{pow-mono, pow-add, pow-pos}
 use lib.Count.{leadingZeros, leading-top}
 use Rattle.laws.specs.Powers.{ten-power}
@@ -104,10 +104,8 @@ module _ (raw f g : ℕ) (h : 0 < raw) (b : raw < 2 ^ 64) (l : f ≤ 64) (r : Ro
       go (no m) =
           let n = 19 - g in
           let p = 2 ^ (127 - (z + f)) in
-          let e : 10 ^ 20 ≡ 10 ^ n * 10 ^ (g + 1) =
-          let d : n + (g + 1) ≡ 20 = omega arith in
-          ap (λ (k : ℕ). 10 ^ k) (sym d) ∙ pow-add 10 n (g + 1) in
-          let c = ap (λ (k : ℕ). p * k) e in
+          let e : n + (g + 1) ≡ 20 = omega arith in
+          let c = ap (λ (k : ℕ). p * k) (ap (λ (k : ℕ). 10 ^ k) (sym e) ∙ pow-add 10 n (g + 1)) in
           let u : p * 10 ^ n * 10 ^ (g + 1) < 2 ^ 64 * 10 ^ (g + 1) = omega (arith, r .1) in
           let v : p * 10 ^ n < 2 ^ 64 = lt-of-mul-lt-mul-right (10 ^ (g + 1)) u in
           let w : 2 ^ suc j ≤ 2 ^ (127 - (z + f) + n) = pow-mono {i = suc j} {j = 127 - (z + f) + n} (omega (arith, top .1)) in

@@ -2,9 +2,8 @@
 -- which decides (`by-next`). Assumes nothing.
 use mathlib.Core.Path.{_≡_, sym, _∙_}
 use mathlib.Core.Bool.{Bool, true, false}
-use Prim.Native.Nat.{ℕ, zero, suc, _+_, _*_, _^_, _≤_, _<_}
+use Prim.Native.Nat.{ℕ, zero, suc, _+_, _^_, _≤_, _<_}
 use native.Mathlib.Nat.{add-zero}
-use native.Mathlib.Omega.{arith}
 use lib.Count.{leadingZeros}
 use lib.IntN.{ℤ, pos, negsuc, sucℤ, _-ℤ_}
 use mir.Val.{boolByte}
