@@ -207,6 +207,13 @@ fn time(rounds: usize, kind: &str, mut raw: impl FnMut(u32, u32) -> u64) {
     }
 }
 
+/// What the call and its checks take alone: zero is refused behind them.
+fn time_refused(rounds: usize) {
+    let raws = vec![0; RAWS];
+    let refused = || each(&raws, |raw| unsafe { tq_log10_unsigned(raw, 16, 15).value });
+    println!("time W 16 F 15, refused with 32: ours {:.2} ns", in_turns(rounds, refused, refused).0.median());
+}
+
 /// `log10 [ROUNDS]`: with 0 nothing is timed.
 fn main() {
     let rounds = std::env::args().nth(1).map_or(15, |n| n.parse().expect("ROUNDS is a number"));
@@ -216,6 +223,7 @@ fn main() {
     at_random(&mut t);
     no_formats(&mut t);
     if rounds > 0 {
+        time_refused(rounds);
         let mut random = Random::new(99);
         time(rounds, "uniform raws", |width, _| random.next() >> (64 - width));
         time(rounds, "log-uniform raws", |width, _| random.sized(width));
