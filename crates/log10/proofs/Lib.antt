@@ -1,4 +1,4 @@
--- What the proofs of more than one function use.
+-- What the proofs of the functions stand on, one idea a file.
 mod Compare
 mod Entry
 mod Leading

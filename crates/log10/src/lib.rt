@@ -35,7 +35,8 @@ fn guess(zeros: u32, frac: u32) -> u32
 // Whether raw / 2^F reaches 10^(guess - 19), the power above the guess. Ten is five times two: the fives stand on the
 // side where they are whole, and the twos are part of the shift, so that no raw and no F needs more than a word.
 fn next_reached(raw: u64, frac: u32, guess: u32) -> bool
-    requires { ⌜ (guess < 39) × (20 ≤ frac + guess) × (frac + guess < 84) × (raw * 5 ^ (19 - guess) < 2 ^ 64) ⌝ }
+    requires { ⌜ (guess < 39) × (20 ≤ frac + guess) × (frac + guess < 84)
+        × (raw * 5 ^ (19 - guess) < 2 ^ 64) ⌝ }
     ensures { λ r. ⌜ r ≡ reaches raw frac (pos guess -ℤ pos 19) ⌝ }
 {
     let fives = fives::fives(guess);
