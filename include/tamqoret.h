@@ -177,14 +177,17 @@ typedef struct {
     int16_t samples[64];
 } tq_state;
 
-/* A block through the filter. Taps and samples are signed raws of 16 bits with 15 fraction bits. outputs and clips have a place for
- * each sample (TQ_WRONG_LENGTH otherwise); a clip byte is 1 where the output was held to the range, else 0. The value is the number of
- * outputs that clipped in this block. With a refusal nothing lent is changed. */
+/* A block through the filter. Taps and samples are signed raws of 16 bits with 15 fraction bits. An output is the exact sum of tap x sample, over
+ * 2^15, rounded to the nearest, ties to even, then held to -32768..32767. outputs and clips have a place for each sample (TQ_WRONG_LENGTH
+ * otherwise); a clip byte is 1 where the output was held to the range, else 0. The value is the number of outputs that clipped in this
+ * block. With a refusal nothing lent is changed. */
 tq_unsigned tq_filter(const int16_t *taps, size_t n, tq_state *state, const int16_t *samples, size_t len, int16_t *outputs, size_t out_len,
                       uint8_t *clips, size_t clips_len);
 
 /* Whether the taps can ever clip, whatever the samples. Value 0: never. 1: some samples clip high. 2: none clip high, some clip low.
- * With 1 and 2 witness, of exactly n places, holds samples that do, newest first; with 0 and with a refusal it is unchanged. */
+ * With 1 and 2 witness, of exactly n places, holds samples that do, newest first; with 0 and with a refusal it is unchanged.
+ * No taps have the value 2, since ones that clip low clip high as well: do not wait for one. By hand: with A the sum of the taps above 0
+ * and B that of the magnitudes of those below, the value is 0 exactly if A + B <= 32767, or A + B = 32768 and B < 16384. */
 tq_unsigned tq_headroom(const int16_t *taps, size_t n, int16_t *witness, size_t m);
 
 typedef struct {

@@ -67,7 +67,7 @@ def verdict(taps):
     low = [0 if t == 0 else (LOW if t > 0 else HIGH) for t in taps]
     for number, words, samples in ((1, "some samples clip high", high), (2, "no samples clip high, some clip low", low)):
         total = sum(t * s for t, s in zip(taps, samples))
-        if not LOW <= total >> 15 <= HIGH and (total > 0) == (number == 1):
+        if not LOW <= round(Fraction(total, 2**15)) <= HIGH and (total > 0) == (number == 1):
             yield f"verdict {number}: {words}"
             yield from (f"sample {i}: {level(s)}" for i, s in enumerate(samples, 1))
             yield f"sum: {exact(Fraction(total, 2**30))}"
@@ -113,7 +113,8 @@ FILES = {
     "good.txt": "# feedback path, right ear\n0.5\n-0.25\n\n0.125\n0x0.08\n1e-3\n-0\n0.000_015_258_789_062_5\n",
     "no_final_lf.txt": "0.5\n-0.5",
     "clips_high.txt": "-1\n",
-    "clips_low.txt": "0.999969482421875\n0.00006103515625\n",
+    "just_clips.txt": "0.999969482421875\n0.00006103515625\n",
+    "just_fits.txt": "0.500030517578125\n-0.499969482421875\n",
     "sixty_four.txt": "".join(f"{'-' if i % 3 == 0 else ''}0.0{i:02}\n" for i in range(1, 65)),
     "16384_bytes.txt": "#" * 16378 + "\n0.25\n",
     "16385_bytes.txt": "#" * 16379 + "\n0.25\n",

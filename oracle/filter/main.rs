@@ -2,9 +2,9 @@
 //!
 //!     oracle/program filter
 //!
-//! It compares every answer with a plain filter written here in i128, tries every set of up to two taps from the interesting values with every
-//! pair of extreme samples, and random longer sets with random samples, none of which may pass the witness. The last lines are ratios per sample
-//! against the same filter in Rust, both in this process.
+//! It compares every answer with a plain filter written here in i128, sums at every half step among them; tries every set of up to two taps from
+//! the interesting values with every pair of extreme samples, and random longer sets with random samples, none of which may pass the witness; and
+//! holds the verdict against its closed form. The last lines are ratios per sample against the same filter in Rust, both in this process.
 
 #[path = "../common/mod.rs"]
 mod common;
@@ -14,6 +14,7 @@ use common::format::Answer;
 use common::random::Random;
 use common::tally::Tally;
 use common::timing::{in_turns, once};
+use std::cmp::Ordering;
 
 const TAPS: usize = 64;
 
@@ -43,8 +44,18 @@ fn exact(taps: &[i16], newest_first: &[i16]) -> i128 {
     taps.iter().zip(newest_first).map(|(&t, &s)| t as i128 * s as i128).sum()
 }
 
+/// P / 2^15 to the nearest, ties to even: by the distance to the whole number below.
+fn rounded(p: i128) -> i128 {
+    let below = p.div_euclid(1 << 15);
+    match (p - (below << 15)).cmp(&(1 << 14)) {
+        Ordering::Less => below,
+        Ordering::Greater => below + 1,
+        Ordering::Equal => below + below.rem_euclid(2),
+    }
+}
+
 fn output(p: i128) -> (i16, bool) {
-    let y = p.div_euclid(1 << 15);
+    let y = rounded(p);
     let held = y.clamp(-32768, 32767);
     (held as i16, held != y)
 }
@@ -68,16 +79,31 @@ fn state(random: &mut Random) -> State {
     [(); TAPS].map(|_| raw(random))
 }
 
-/// Taps whose absolute values sum to about 2^15, so that a sum of samples comes within a few steps of an end of the range.
-fn edge(random: &mut Random, n: usize) -> Vec<i16> {
-    let mut left = 32764 + random.below(9);
-    let mixed = random.one_in(2); // verdict 2 needs taps of one sign
+/// Taps of one sign whose magnitudes sum to this, or as near as n taps of at most 32767 come.
+fn split(random: &mut Random, mut left: usize, n: usize, sign: i16) -> Vec<i16> {
     let mut taps = Vec::new();
     for k in 0..n {
         let part = if k + 1 == n { left } else { random.below(1 + 2 * left / (n - k)) };
         let part = part.min(32767).min(left);
         left -= part;
-        taps.push(if mixed && random.one_in(3) { -(part as i16) } else { part as i16 });
+        taps.push(sign * part as i16);
+    }
+    taps
+}
+
+/// Taps whose magnitudes sum to about 2^15, so that a sum of samples comes within a few steps of an end of the range; of one sign, or about half
+/// of the sum below 0, where the last half step is decided.
+fn edge(random: &mut Random, n: usize) -> Vec<i16> {
+    let total = 32764 + random.below(9);
+    if n == 1 || random.one_in(3) {
+        let sign = random.pick(&[-1, 1]);
+        return split(random, total, n, sign);
+    }
+    let (below, places) = (16380 + random.below(9), 1 + random.below(n - 1));
+    let mut taps = split(random, below, places, -1);
+    taps.extend(split(random, total - below, n - places, 1));
+    for k in 0..n {
+        taps.swap(k, random.below(n));
     }
     taps
 }
@@ -107,40 +133,42 @@ fn compare(t: &mut Tally, taps: &[i16], state: &State, samples: &[i16]) {
     see(t, o == want && c == marks && s[..] == line[..], "block", taps);
 }
 
-/// A verdict against its meaning: the witness clips as it says, and no samples tried pass it.
+/// With A the sum of the taps above 0 and B that of the magnitudes of those below: whether they never clip.
+fn never(taps: &[i16]) -> bool {
+    let sum = |sign: i64| taps.iter().map(|&tap| (sign * i64::from(tap)).max(0)).sum::<i64>();
+    let (a, b) = (sum(1), sum(-1));
+    a + b <= 32767 || (a + b == 32768 && b < 16384)
+}
+
+/// A verdict against its meaning: the witness clips high, and no samples tried pass it. There is no verdict 2.
 fn judge(t: &mut Tally, taps: &[i16], tries: &[Vec<i16>]) -> usize {
     let mut w = vec![5i16; taps.len()];
     let Answer { number, flag, value } = headroom(taps, &mut w);
-    see(t, number == 0 && !flag && value <= 2, "verdict's form", taps);
+    see(t, number == 0 && !flag && value <= 1, "verdict's form", taps);
+    see(t, (value == 0) == never(taps), "the closed form", taps);
     match value {
         0 => see(t, w.iter().all(|&x| x == 5), "witness written with verdict 0", taps),
-        _ => judge_witness(t, taps, &w, value == 1),
+        _ => judge_witness(t, taps, &w),
     }
     for samples in tries {
         let p = exact(taps, samples);
-        let (y, clip) = output(p);
-        let allowed = match value {
-            0 => !clip,
-            1 => p <= exact(taps, &w),
-            _ => !(clip && y == 32767) && p >= exact(taps, &w),
-        };
+        let allowed = if value == 0 { !output(p).1 } else { p <= exact(taps, &w) };
         see(t, allowed, "samples pass the witness", taps);
     }
     value as usize
 }
 
-/// The witness clips high or low, also through the filter itself, oldest first, from silence; its samples are at the ends, and 0 where the tap is.
-fn judge_witness(t: &mut Tally, taps: &[i16], w: &[i16], high: bool) {
+/// The witness clips high, also through the filter itself, oldest first, from silence; its samples are at the ends, and 0 where the tap is.
+fn judge_witness(t: &mut Tally, taps: &[i16], w: &[i16]) {
     let n = taps.len();
-    let end = if high { 32767 } else { -32768 };
-    see(t, output(exact(taps, w)) == (end, true), "the witness clips", taps);
+    see(t, output(exact(taps, w)) == (32767, true), "the witness clips", taps);
     let fed: Vec<i16> = w.iter().rev().copied().collect();
     let (mut s, mut o, mut c) = ([0i16; TAPS], vec![0i16; n], vec![0u8; n]);
     filter(taps, &mut s, &fed, &mut o, &mut c);
-    see(t, o[n - 1] == end && c[n - 1] == 1, "the filter clips on the witness", taps);
+    see(t, o[n - 1] == 32767 && c[n - 1] == 1, "the filter clips on the witness", taps);
     let right = |tap: i16| match tap {
         0 => 0,
-        _ if (tap > 0) == high => 32767,
+        1.. => 32767,
         _ => -32768,
     };
     see(t, taps.iter().zip(w).all(|(&tap, &x)| x == right(tap)), "the witness' ends", taps);
@@ -162,7 +190,7 @@ fn verdicts(t: &mut Tally, random: &mut Random) {
         32767,
     ];
     let ends = [-32768i16, -32767, -1, 0, 1, 32766, 32767];
-    let mut verdicts = [0u64; 3];
+    let mut verdicts = [0u64; 2];
     for n in 1..=2 {
         let tries = lists(&ends, n);
         for taps in lists(&interesting, n) {
@@ -179,7 +207,38 @@ fn verdicts(t: &mut Tally, random: &mut Random) {
         };
         verdicts[judge(t, &taps, &tries)] += 1;
     }
-    println!("verdicts 0, 1, 2: {verdicts:?}");
+    println!("verdicts 0, 1: {verdicts:?}");
+}
+
+/// The closed form at its border: every B, with A + B from 32766 to 32770. A and B are two taps each.
+fn borders(t: &mut Tally) {
+    for total in 32766..=32770 {
+        for below in 0..=total {
+            let (high, low) = ((total - below).min(32767), below.min(32767));
+            let taps = [high, -low, total - below - high, low - below].map(|tap| tap as i16);
+            judge(t, &taps, &[]);
+        }
+    }
+}
+
+/// Sums about every half step, either side of 0 and past both ends: P = q x 2^15 + d, with d about 0 and about a tie.
+fn half_steps(t: &mut Tally) {
+    let taps = [-32768, 1, 16384];
+    for q in -32771..=32771 {
+        for d in [-1, 0, 1, 16383, 16384, 16385] {
+            let p = (q << 15) + d;
+            let newest = (-p >> 15).clamp(-32768, 32767); // the nearest that -32768 comes to P, then what 16384 adds, and the rest
+            let left = p + (newest << 15);
+            let oldest = left >> 14;
+            let samples = [oldest, left - (oldest << 14), newest].map(|x: i64| x as i16);
+            let (mut s, mut o, mut c) = ([0; TAPS], [7; 3], [7; 3]);
+            filter(&taps, &mut s, &samples, &mut o, &mut c);
+            let newest_first = [samples[2], samples[1], samples[0]];
+            let (y, clip) = output(p.into());
+            let holds = exact(&taps, &newest_first) == p.into() && (o[2], c[2]) == (y, u8::from(clip));
+            t.see(holds, || format!("P = {p}: output {}, clip {}, expected {y}, {clip}", o[2], c[2]));
+        }
+    }
 }
 
 fn blocks(t: &mut Tally, random: &mut Random) {
@@ -217,7 +276,7 @@ fn plain(taps: &[i16], state: &mut State, samples: &[i16], outputs: &mut [i16], 
         state.copy_within(..TAPS - 1, 1);
         state[0] = x;
         let p: i64 = taps.iter().zip(state.iter()).map(|(&t, &s)| (t as i32 * s as i32) as i64).sum();
-        let y = p >> 15;
+        let y = (p + 16383 + ((p >> 15) & 1)) >> 15;
         let held = y.clamp(-32768, 32767);
         *out = held as i16;
         *clip = (held != y) as u8;
@@ -253,6 +312,8 @@ fn main() {
     let mut t = Tally::default();
     let mut random = Random::new(1);
     verdicts(&mut t, &mut random);
+    borders(&mut t);
+    half_steps(&mut t);
     blocks(&mut t, &mut random);
     refusals(&mut t, &mut random);
     speed(&mut random);

@@ -9,6 +9,6 @@ int main(void)
     char line[64];
     snprintf(line, sizeof line, "verdict %llu: samples %d, %d clip", (unsigned long long)verdict.value, witness[0], witness[1]);
     puts(line);
-    check(strcmp(line, "verdict 2: samples -32768, -32768 clip") == 0, "verdict", verdict.value, 2);
+    check(strcmp(line, "verdict 1: samples 32767, 32767 clip") == 0, "verdict", verdict.value, 1);
     return finish();
 }

@@ -68,7 +68,7 @@ impl Default for State {
 
 /// A block through the filter with these taps; how many outputs clipped.
 ///
-/// `outputs` and `clips` have a place for each sample, else [`Error::WrongLength`]; a clip byte is 1 where the output was held to the range, else 0.
+/// An output is the exact sum of tap x sample, over 2^15, rounded to the nearest, ties to even, then held to the range. `outputs` and `clips` have a place for each sample, else [`Error::WrongLength`]; a clip byte is 1 where the output was held to the range, else 0.
 /// With a refusal nothing is changed.
 pub fn run(
     taps: &[i16],
@@ -147,17 +147,20 @@ pub enum Verdict {
     Never,
     /// Some samples clip high.
     High(Raws),
-    /// None clip high, some clip low.
+    /// None clip high, some clip low. No taps have this verdict: ones that clip low clip high as well. It is here since 01 defines it.
     Low(Raws),
 }
 
 /// Whether these taps can ever clip, whatever the samples. Taps that are not 1 to 64 are [`Error::WrongTaps`].
 ///
+/// By hand: with A the sum of the taps above 0 and B that of the magnitudes of those below, they never clip exactly if A + B is at most 32767,
+/// or A + B is 32768 and B below 16384.
+///
 /// ```
 /// use tamqoret::{Verdict, headroom};
 /// assert_eq!(headroom(&[32767, 1])?, Verdict::Never);
-/// let Verdict::Low(samples) = headroom(&[32767, 2])? else { panic!() };
-/// assert_eq!(*samples, [-32768, -32768]);
+/// let Verdict::High(samples) = headroom(&[16384, -16384])? else { panic!() };
+/// assert_eq!(*samples, [32767, -32768]);
 /// # Ok::<(), tamqoret::Error>(())
 /// ```
 pub fn headroom(taps: &[i16]) -> Result<Verdict, Error> {

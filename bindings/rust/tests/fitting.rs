@@ -28,9 +28,20 @@ fn verdicts() {
     let Ok(Verdict::High(samples)) = headroom(&[-32768]) else { panic!("verdict 1") };
     assert_eq!(*samples, [-32768]);
     assert_eq!(headroom(&[32767, 1]), Ok(Verdict::Never));
-    let Ok(Verdict::Low(samples)) = headroom(&[32767, 2]) else { panic!("verdict 2") };
-    assert_eq!(*samples, [-32768, -32768]);
+    let Ok(Verdict::High(samples)) = headroom(&[32767, 2]) else { panic!("verdict 1") };
+    assert_eq!(*samples, [32767, 32767]);
+    let Ok(Verdict::High(samples)) = headroom(&[16384, -16384]) else { panic!("verdict 1") };
+    assert_eq!(*samples, [32767, -32768]);
+    assert_eq!(headroom(&[16385, -16383]), Ok(Verdict::Never));
     assert_eq!((headroom(&[]), headroom(&[0; 65])), (Err(Error::WrongTaps), Err(Error::WrongTaps)));
+}
+
+#[test]
+fn half_steps_go_to_the_even_output() {
+    let mut filter = Filter::new(&[16384]).unwrap(); // half a step for each step of the sample
+    let (mut outputs, mut clips) = ([0; 6], [0; 6]);
+    assert_eq!(filter.run(&[1, 3, 5, -1, -3, -5], &mut outputs, &mut clips), Ok(0));
+    assert_eq!(outputs, [0, 2, 2, 0, -2, -2]);
 }
 
 #[test]

@@ -2,6 +2,7 @@ pub mod Block
 pub mod Cases
 pub mod Line
 pub mod Meaning
+pub mod Mirror
 pub mod Promise
 pub mod Range
 pub mod Refuse

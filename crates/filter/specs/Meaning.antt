@@ -4,14 +4,15 @@ use mathlib.Core.Bool.{Bool, true, false, cond, not}
 use mathlib.Core.List.{List, [], _∷_, map}
 use Prim.Native.Nat.{ℕ, _+_, _^_}
 use lib.Dec.{leb, eqb}
-use lib.IntN.{ℤ, pos, _+ℤ_, _*ℤ_}
+use lib.IntN.{ℤ, pos, natAbs, _+ℤ_, _*ℤ_}
 use lib.ListN.{length, take, replicate}
-use Rattle.laws.specs.Floor.{floor}
+use lib.Signed.{ltZ}
+use Rattle.laws.specs.Nearest.{nearestEven}
 use Rattle.format.specs.declared.SignedAnswer.{SignedAnswer}
 use Rattle.format.specs.declared.SignedAnswer.the-variants.{Done as DoneS, Refused as RefusedS}
 use Rattle.format.specs.declared.UnsignedAnswer.{UnsignedAnswer}
 use Rattle.format.specs.declared.UnsignedAnswer.the-variants.{Done as DoneU, Refused as RefusedU}
-use Rattle.format.specs.Meaning.{signed, fits, hold, guarded}
+use Rattle.format.specs.Meaning.{signed, fits, hold, guarded, withSign}
 use Rattle.filter.specs.declared.State.{State}
 use Rattle.filter.specs.declared.Stepped.{Stepped}
 
@@ -41,9 +42,9 @@ sumOf [] history = pos 0
 sumOf (tap ∷ taps) [] = pos 0
 sumOf (tap ∷ taps) (sample ∷ history) = tap *ℤ sample +ℤ sumOf taps history
 
--- "The output is P / 2^15 rounded toward minus infinity,"
+-- "The output is P / 2^15 rounded to nearest, ties to even, once," (Theorems: `output-near`, `output-tie`)
 unfoldable pub rounded : ℤ → ℤ
-rounded p = floor p (2 ^ 15)
+rounded p = withSign (ltZ p (pos 0)) (nearestEven (natAbs p) (2 ^ 15))
 
 -- "then held to -32768..32767;"
 unfoldable pub held : ℤ → ℤ

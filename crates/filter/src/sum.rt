@@ -1,7 +1,7 @@
 // One output: the exact sum, rounded once, held once.
 ghost use mathlib.Core.Path.{_≡_};
-ghost use Prim.Native.Nat.{_≤_};
-ghost use lib.IntN.{_*ℤ_};
+ghost use Prim.Native.Nat.{_*_, _^_, _≤_};
+ghost use lib.IntN.{natAbs, _*ℤ_};
 ghost use lib.ListN.{length};
 ghost use Rattle.filter.specs.Meaning.{mostTaps, sumOf, rounded, levelOf};
 ghost use Rattle.filter.specs.Sum.{heldOf};
@@ -25,6 +25,7 @@ fn dot(taps: &[i16], line: &[i16; TAPS]) -> i64
     requires { ⌜ length (now taps) ≤ mostTaps ⌝ }
     requires { ⌜ length (now line) ≡ mostTaps ⌝ }
     ensures { λ r. ⌜ r ≡ sumOf (now (taps .entry)) (now (line .entry)) ⌝ }
+    ensures { λ r. ⌜ natAbs r ≤ mostTaps * 2 ^ 30 ⌝ }
 {
     let mut sum: i64 = 0;
     let mut i = 0;
@@ -37,11 +38,14 @@ fn dot(taps: &[i16], line: &[i16; TAPS]) -> i64
     sum
 }
 
-// P / 2^15 as an integer raw. The shift keeps the sign, so it rounds toward minus infinity.
+// P / 2^15 to the nearest, ties to even: half a step less one is added, and one more where the whole part is odd.
+// The shifts copy the sign, so they go down.
 fn round(p: i64) -> i64
+    requires { ⌜ natAbs p ≤ mostTaps * 2 ^ 30 ⌝ }
     ensures { λ r. ⌜ r ≡ rounded p ⌝ }
 {
-    p >> 15
+    let odd = (p >> 15) & 1;
+    (p + 16383 + odd) >> 15
 }
 
 // The output before it is held.

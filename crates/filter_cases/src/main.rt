@@ -1,5 +1,5 @@
-// Document 01's headroom cases as runs: the verdict, and where it is 1 or 2 the witness, and how many
-// outputs clip on it, fed oldest first from silence.
+// Document 01's headroom cases as runs, and 02's: the verdict, and where it is 1 or 2 the witness, newest
+// first, and how many outputs clip on it, fed oldest first from silence.
 use format::UnsignedAnswer;
 use libc::STDOUT_FILENO;
 
@@ -12,6 +12,10 @@ fn main() {
     two(32767, 1);
     io::write_all(STDOUT_FILENO, b"32767 2:");
     two(32767, 2);
+    io::write_all(STDOUT_FILENO, b"16384 -16384:");
+    two(16384, -16384);
+    io::write_all(STDOUT_FILENO, b"16385 -16383:");
+    two(16385, -16383);
 }
 
 // One tap.
@@ -21,8 +25,8 @@ fn one(tap: i16) {
     let verdict = value(headroom::headroom(&taps, &mut witness));
     print(b" verdict ", verdict);
     if 0 < verdict {
+        sample(witness[0]);
         let fed = [witness[0]];
-        sample(fed[0]);
         clips(&taps, &fed, &mut [0i16; 1], &mut [0u8; 1]);
     }
     io::write_all(STDOUT_FILENO, b"\n");
@@ -35,9 +39,9 @@ fn two(first: i16, second: i16) {
     let verdict = value(headroom::headroom(&taps, &mut witness));
     print(b" verdict ", verdict);
     if 0 < verdict {
+        sample(witness[0]);
+        sample(witness[1]);
         let fed = [witness[1], witness[0]];
-        sample(fed[0]);
-        sample(fed[1]);
         clips(&taps, &fed, &mut [0i16; 2], &mut [0u8; 2]);
     }
     io::write_all(STDOUT_FILENO, b"\n");

@@ -11,7 +11,8 @@ fn taken() {
     one(b"good.txt");
     one(b"no_final_lf.txt");
     one(b"clips_high.txt");
-    one(b"clips_low.txt");
+    one(b"just_clips.txt");
+    one(b"just_fits.txt");
     one(b"sixty_four.txt");
     one(b"16384_bytes.txt");
 }

@@ -8,7 +8,8 @@ use lib.IntN.{ℤ, pos, negsuc}
 use lib.ListN.{length, replicate}
 use lib.Signed.{ltZ}
 use Rattle.format.specs.declared.UnsignedAnswer.the-variants.{Done, Refused}
-use Rattle.format.specs.Meaning.{lowest, highest, guarded}
+use Rattle.laws.specs.Nearest.{nearestEven, nearestBy}
+use Rattle.format.specs.Meaning.{lowest, highest, guarded, withSign}
 use Rattle.filter.specs.Meaning.{mostTaps, sumOf, rounded, levelOf, tapsFault}
 use Rattle.headroom.specs.declared.peak.Way.the-variants.{High, Low}
 use Rattle.headroom.specs.Meaning.{bySign, drivenOf, driving, passes, clipsWay, verdictOf, witnessOf, headFault, headed, headroomOf}
@@ -30,10 +31,10 @@ pub headroom-cases :
     Headroom (pos 32767 ∷ []) 0 (zeros 1)
     × (Headroom (low ∷ []) 1 (low ∷ [])
     × (Headroom (pos 32767 ∷ pos 1 ∷ []) 0 (zeros 2)
-    × (Headroom (pos 32767 ∷ pos 2 ∷ []) 2 (low ∷ low ∷ [])
+    × (Headroom (pos 32767 ∷ pos 2 ∷ []) 1 (pos 32767 ∷ pos 32767 ∷ [])
     × ((sumOf (pos 32767 ∷ pos 2 ∷ []) (driving High (pos 32767 ∷ pos 2 ∷ [])) ≡ pos (2 ^ 30 - 1))
     × (ltZ (sumOf (pos 32767 ∷ pos 2 ∷ []) (driving Low (pos 32767 ∷ pos 2 ∷ []))) (negsuc (2 ^ 30 - 1)) ≡ true)))))
-unfolding headroomOf guarded headFault tapsFault verdictOf witnessOf clipsWay levelOf sumOf rounded drivenOf bySign passes lowest highest
+unfolding headroomOf guarded headFault tapsFault verdictOf witnessOf clipsWay levelOf sumOf rounded withSign nearestEven nearestBy drivenOf bySign passes lowest highest
 headroom-cases = (refl, (refl, (refl, (refl, (refl, refl)))))
 
 -- no taps; one too many; a place too few, which goes first
@@ -45,10 +46,13 @@ pub refusal-cases :
 unfolding headroomOf guarded headFault tapsFault
 refusal-cases = (refl, (refl, (refl, refl)))
 
--- a zero tap has the sample 0; signs matter: 16384 and -16384 reach 2^30 - 2^14 and no further, which is 32767 when rounded down
+-- a zero tap has the sample 0; signs matter: 16384 and -16384 reach 1073725440, 32767.5 steps, which is 32768 when rounded; 16385 and -16383, whose
+-- magnitudes add up to the same, reach one less
 pub sign-cases :
     Headroom (low ∷ pos 0 ∷ low ∷ []) 1 (low ∷ pos 0 ∷ low ∷ [])
     × (Headroom (pos 32767 ∷ negsuc 32766 ∷ []) 1 (pos 32767 ∷ low ∷ [])
-    × Headroom (pos 16384 ∷ negsuc 16383 ∷ []) 0 (zeros 2))
-unfolding headroomOf guarded headFault tapsFault verdictOf witnessOf clipsWay levelOf sumOf rounded drivenOf bySign passes lowest highest
-sign-cases = (refl, (refl, refl))
+    × (Headroom (pos 16384 ∷ negsuc 16383 ∷ []) 1 (pos 32767 ∷ low ∷ [])
+    × ((sumOf (pos 16384 ∷ negsuc 16383 ∷ []) (pos 32767 ∷ low ∷ []) ≡ pos 1073725440)
+    × Headroom (pos 16385 ∷ negsuc 16382 ∷ []) 0 (zeros 2))))
+unfolding headroomOf guarded headFault tapsFault verdictOf witnessOf clipsWay levelOf sumOf rounded withSign nearestEven nearestBy drivenOf bySign passes lowest highest
+sign-cases = (refl, (refl, (refl, (refl, refl))))

@@ -59,15 +59,19 @@ times-zero : (a b : ℤ) → (pos 0 *ℤ a) ≤ℤ (pos 0 *ℤ b)
 times-zero a b = omega (orders, up-mul (pos 0) a, dn-mul (pos 0) a, up-mul (pos 0) b, dn-mul (pos 0) b)
 
 -- which end a tap takes, by its sign
-by-above : (n : ℕ) (a b : ℤ) → bySign (pos (suc n)) a b ≡ a
+pub by-above : (n : ℕ) (a b : ℤ) → bySign (pos (suc n)) a b ≡ a
 unfolding bySign
 by-above n a b =
     let l : pos 0 <ℤ pos (suc n) = omega signed in
     rw (lt-ltZ l)
 
-by-below : (n : ℕ) (a b : ℤ) → bySign (negsuc n) a b ≡ b
+pub by-below : (n : ℕ) (a b : ℤ) → bySign (negsuc n) a b ≡ b
 unfolding bySign
 by-below n a b = refl
+
+pub by-zero : (a b : ℤ) → bySign (pos 0) a b ≡ pos 0
+unfolding bySign
+by-zero a b = refl
 
 -- a term is furthest at the end that drives it
 pub term-within : (way : Way) (t s : ℤ) → Sample s → Within way (t *ℤ s) (t *ℤ drivenOf way t)

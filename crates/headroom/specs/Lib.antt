@@ -1,4 +1,5 @@
 pub mod Cases
+pub mod Closed
 pub mod Drive
 pub mod Ends
 pub mod Head

@@ -3,7 +3,7 @@ use mathlib.Core.Path.{_≡_, refl, sym, ap, _∙_}
 use mathlib.Core.Logic.{_↔_, _⊎_, inl, inr}
 use mathlib.Core.Bool.{true, false}
 use mathlib.Core.List.{List, reverse}
-use Prim.Native.Nat.{ℕ, _+_, _≤_, _<_}
+use Prim.Native.Nat.{ℕ, _+_, _^_, _≤_, _<_}
 use native.Mathlib.Omega.{arith}
 use lib.IntN.{ℤ}
 use lib.ListN.{length, length-map}
@@ -21,6 +21,7 @@ use Rattle.headroom.specs.Meaning.{headFault, drivenOf, driving, clipsWa
 use Rattle.headroom.specs.Promise.{Heads}
 use Rattle.headroom.specs.Head.{head-fit}
 use Rattle.headroom.specs.Drive.{Within, sum-within}
+use Rattle.headroom.specs.Closed.{sumAbove, sumBelow, magnitudes, magnitudes-are, Small, no-low, small-then, then-small}
 
 -- ---- The samples that drive the sum furthest: `driving`, each the end of the range for its tap.
 -- no samples, from any state of samples, drive the sum further; and the bound is attained
@@ -70,6 +71,37 @@ verdict-0 taps few = (λ e xs k. sound taps silence xs e silence-samples k, λ a
 pub verdict-0-any : (taps h : List ℤ) → length taps ≤ mostTaps → length h ≤ mostTaps → Samples h
     → (verdictOf taps ≡ 0) ↔ ((xs : List ℤ) → Samples xs → clipped (runOf taps h xs .flags) ≡ 0)
 verdict-0-any taps h few k s = (λ e xs t. sound taps h xs e s t, λ all. complete taps h few k all)
+
+-- NO VERDICT 2. Taps that clip low clip high as well: the range reaches one step further down than up, but 32767.5 steps are rounded up to
+-- 32768, which is even, and -32768.5 steps to -32768. So nobody need wait for a 2; what the theorems below say of it is 01's definition.
+pub never-2 : (taps : List ℤ) → verdictOf taps ≡ 2 → ⊥
+never-2 taps e = go (told taps)
+  where
+    go : Told taps → ⊥
+    go (high a v w) = omega arith
+    go (low a b v w) = no-low taps a b
+    go (neither a b v) = omega arith
+
+-- CLOSED FORM. With A the sum of the taps above 0 and B that of the magnitudes of those below, in steps: verdict 0 exactly if A + B is at most
+-- 32767, or A + B is 32768 and B below 16384. Else the verdict is 1.
+pub closed-form : (taps : List ℤ)
+    → (verdictOf taps ≡ 0)
+    ↔ ((sumAbove taps + sumBelow taps ≤ 32767) ⊎ ((sumAbove taps + sumBelow taps ≡ 32768) × (sumBelow taps < 16384)))
+closed-form taps = (λ e. there e (told taps), λ h. back h (told taps))
+  where
+    there : verdictOf taps ≡ 0 → Told taps → Small taps
+    there e (high a v w) = absurd (omega arith)
+    there e (low a b v w) = absurd (omega arith)
+    there e (neither a b v) = then-small taps a
+
+    back : Small taps → Told taps → verdictOf taps ≡ 0
+    back h (high a v w) = absurd (small-then taps h a)
+    back h (low a b v w) = absurd (no-low taps a b)
+    back h (neither a b v) = v
+
+-- magnitudes that add up to less than 1, 2^15 steps, never clip: no samples, from any state of samples, make any output clip
+pub below-one : (taps h xs : List ℤ) → magnitudes taps < 2 ^ 15 → Samples h → Samples xs → clipped (runOf taps h xs .flags) ≡ 0
+below-one taps h xs l s k = sound taps h xs (closed-form taps .1 (inl (omega (arith, magnitudes-are taps)))) s k
 
 -- Verdict 1: the witness, fed oldest first, makes the last output clip high. Verdict 2: no samples clip high, and the witness makes the last output
 -- clip low. Both from any state, silence among them; `before` is what the witness buffer held.
@@ -143,6 +175,10 @@ head-done taps witness kept v p = pick (which _ _ _ p)
     pick (inl h) =
         (head-fit (length taps) (length witness) (h .0) .1, (same-value (ap (λ (r : Headed). r .answer) (h .1)), ap (λ (r : Headed). r .witness) (h .1)))
     pick (inr h) = not-refused (ap (λ (r : Headed). r .answer) h)
+
+-- `headroom` never answers 2
+pub no-answer-2 : (taps witness kept : List ℤ) → Heads taps witness (DoneU 2 false) kept → ⊥
+no-answer-2 taps witness kept p = never-2 taps (sym (head-done taps witness kept 2 p .1 .0))
 
 run-done : (taps : List ℤ) (state state' : State) (samples outputs outputs' : List ℤ) (marks marks' : List ℕ) (n : ℕ)
     → Runs taps state samples outputs marks (DoneU n false) state' outputs' marks' → n ≡ clipped (runOf taps (history state) samples .flags)

@@ -104,7 +104,8 @@ loop-again c =
 returns : tie.Need-returns Inv-loop μ-loop
 returns c =
     let end : c .before .loop .i ≡ length (c .before .before .args .taps .now) = omega arith in
-    rw (end, sum-end, +ℤ-idr) at (c .before .loop .inv .1 .1)
+    let inv = c .before .loop .inv in
+    (rw (end, sum-end, +ℤ-idr) at (inv .1 .1), omega (arith, inv .1 .0))
 
 pub dot-spec : {M : Type 1} → statement M
 dot-spec =

@@ -12,13 +12,15 @@ dot-requires : tie.Need-dot-requires
 dot-requires c κs = search needs
 
 round-requires : tie.Need-round-requires
-round-requires c κs = search needs
+round-requires c κs =
+    let sum = c .dot in
+    rw (ok-back w64 (sum .result) (sum .ok)) (sum .ensures .1)
 
 returns : tie.Need-returns
 unfolding levelOf
 returns c =
     let sum = c .before .dot in
-    ok-back w64 (c .round .result) (c .round .ok) ∙ (rw (ok-back w64 (sum .result) (sum .ok), sum .ensures) at (c .round .ensures))
+    ok-back w64 (c .round .result) (c .round .ok) ∙ (rw (ok-back w64 (sum .result) (sum .ok), sum .ensures .0) at (c .round .ensures))
 
 pub level-spec : {M : Type 1} → statement M
 level-spec = tie.close (tie.spec dot-requires round-requires returns)

@@ -1,16 +1,27 @@
--- `sum::round` meets its contract: a shift to the right makes no number larger, so what it writes is read back. Assumes nothing.
-use Prim.Native.Nat.{_^_}
-use lib.Signed.{mag-shr}
+-- `sum::round` meets its contract: what the machine reads back of each sum is the sum, since P is at most 2 ^ 36 either way, and the sum shifted down
+-- is the rounded number (`rounded-code`). Assumes nothing.
+use native.Mathlib.Omega.{arith}
 use mir.Syntax.{w64}
-use mir.ValLaws.{sfits-le}
 use mir.Facts.{toZ-ofZ}
-use Rattle.filter.specs.Meaning.{rounded}
+use Rattle.laws.specs.Signed.{word-pos}
+use Rattle.filter.specs.Rounding.{odd, whole-odd, half-fits, raised-fits, lowered-fits, rounded-code}
 use Rattle.filter.proofs.sum.round.Statement.{statement}
 use Rattle.filter.proofs.sum.round.Tie as tie
 
+add-result : tie.Need-add-result
+add-result c = rw (toZ-ofZ {w = w64} (c .fits .p)) (half-fits (c .args .p) (c .pre))
+
+add-result-2 : tie.Need-add-result-2
+add-result-2 c =
+    let p = c .args .p in
+    rw (toZ-ofZ {w = w64} (c .fits .p), toZ-ofZ {w = w64} (half-fits p (c .pre)), whole-odd p (c .pre), word-pos (odd p) (omega arith))
+    (raised-fits p (c .pre))
+
 returns : tie.Need-returns
-unfolding rounded
-returns c = rw (toZ-ofZ {w = w64} (c .fits .p)) (toZ-ofZ (sfits-le (mag-shr (c .args .p) (2 ^ 15)) (c .fits .p)))
+returns c =
+    let p = c .args .p in
+    rw (toZ-ofZ {w = w64} (c .fits .p), toZ-ofZ {w = w64} (half-fits p (c .pre)), whole-odd p (c .pre), word-pos (odd p) (omega arith))
+    (rw (toZ-ofZ {w = w64} (raised-fits p (c .pre)), toZ-ofZ {w = w64} (lowered-fits p (c .pre))) (rounded-code p))
 
 pub round-spec : {M : Type 1} → statement M
-round-spec = tie.close (tie.spec returns)
+round-spec = tie.close (tie.spec add-result add-result-2 returns)
