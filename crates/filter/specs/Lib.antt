@@ -1,3 +1,4 @@
+pub mod Added
 pub mod Block
 pub mod Cases
 pub mod Line

@@ -1,26 +1,20 @@
 -- The laws of the rounding: it is the one whole number within half a step of p / 2^15 that is even at a tie; so it keeps the order, 0 and the sign.
 -- Nothing above looks further into it. Assumes nothing.
-use mathlib.Core.Path.{_≡_, refl, _∙_}
+use mathlib.Core.Path.{_≡_, refl}
 use mathlib.Core.Bool.{false}
 use mathlib.Core.Logic.{_⊎_, inl, inr}
-use Prim.Native.Nat.{ℕ, suc, _+_, _*_, _-_, _/_, _%_, _^_, _≤_}
+use Prim.Native.Nat.{ℕ, suc, _+_, _*_, _/_, _%_, _^_, _≤_}
 use native.Mathlib.Omega.{arith}
-use lib.Bits.{bitAnd, and-mask}
 use lib.Dec.{lit<}
-use lib.IntN.{ℤ, pos, negsuc, negℤ, natAbs, _+ℤ_, _-ℤ_, _*ℤ_}
-use lib.Signed.{shrZ, mag-shr, ltZ, _≤ℤ_, _<ℤ_, ≤ℤ-refl}
-use mir.Syntax.{w64}
-use mir.Val.{SFits, ofZ}
-use mir.ValLaws.{sfits-le}
+use lib.IntN.{ℤ, pos, negsuc, negℤ, natAbs, _-ℤ_, _*ℤ_}
+use lib.Signed.{ltZ, _≤ℤ_, _<ℤ_, ≤ℤ-refl}
 use Rattle.laws.specs.Bound.{abs-in, abs-out}
-use Rattle.laws.specs.Diff.{up, dn, add-out, sub-out, up-neg, dn-neg, orders}
-use Rattle.laws.specs.Floor.{floor-out}
+use Rattle.laws.specs.Diff.{up, dn, sub-out, up-neg, dn-neg, orders}
 use Rattle.laws.specs.Nearest.{Nearest, nearest, nearestEven, nearestBy}
 use Rattle.laws.specs.Order.{mul-out, <ℤ-or-≥ℤ, ≤ℤ-antisym}
-use Rattle.laws.specs.Signed.{signed}
 use Rattle.laws.specs.Tests.{le-ltZ}
 use Rattle.format.specs.Meaning.{withSign}
-use Rattle.filter.specs.Meaning.{mostTaps, rounded}
+use Rattle.filter.specs.Meaning.{rounded}
 
 -- q is a whole number within half a step of p / 2^15, and even at a tie. The distances are of the two naturals of each, for `omega`
 pub record Near (p q : ℤ) : Type 0 where
@@ -83,7 +77,7 @@ near-mono {a} {b} {p} {q} f g h = pick (<ℤ-or-≥ℤ q p)
     pick (inr l) = l
 
 -- so there is one
-near-unique : {p q r : ℤ} → Near p q → Near p r → q ≡ r
+pub near-unique : {p q r : ℤ} → Near p q → Near p r → q ≡ r
 near-unique {p} f g = ≤ℤ-antisym (near-mono f g (≤ℤ-refl p)) (near-mono g f (≤ℤ-refl p))
 
 pub rounded-mono : {a b : ℤ} → a ≤ℤ b → rounded a ≤ℤ rounded b
@@ -98,7 +92,7 @@ rounded-neg p = near-unique (rounded-is (negℤ p)) (near-turned p (rounded p) (
 
 -- by distance: half a step at most, even where it is half a step, and no other whole number has both
 module _ (p q : ℤ) where
-  abbrev pub gap : ℤ
+  abbrev gap : ℤ
   gap = p -ℤ q *ℤ pos (2 ^ 15)
 
   gap-out : up gap + (dn p + up q * 2 ^ 15) ≡ (up p + dn q * 2 ^ 15) + dn gap
@@ -132,61 +126,3 @@ rounded-tie p t = near-tie p (rounded p) (rounded-is p) t
 pub rounded-only : (p q : ℤ) → natAbs (p -ℤ q *ℤ pos (2 ^ 15)) * 2 ≤ 2 ^ 15 → (natAbs (p -ℤ q *ℤ pos (2 ^ 15)) * 2 ≡ 2 ^ 15 → natAbs q % 2 ≡ 0)
     → q ≡ rounded p
 rounded-only p q h t = near-unique (gap-near p q h t) (rounded-is p)
-
--- as the code has it: half a step less one is added, and one more where the whole part is odd
-module _ (p : ℤ) where
-  abbrev whole : ℤ
-  whole = shrZ p (2 ^ 15)
-
-  abbrev pub odd : ℕ
-  odd = natAbs whole % 2
-
-  abbrev pub raised : ℤ
-  raised = p +ℤ pos 16383 +ℤ pos odd
-
-  abbrev pub lowered : ℤ
-  lowered = shrZ raised (2 ^ 15)
-
-  raised-out : up raised + dn p ≡ up p + 16383 + odd + dn raised
-  raised-out = omega (arith, add-out p (pos 16383), add-out (p +ℤ pos 16383) (pos odd))
-
-  after-even : lowered ≡ whole → odd ≡ 0 → natAbs lowered % 2 ≡ 0
-  after-even e o = rw e o
-
-  after-odd : up lowered + dn whole ≡ up whole + dn lowered + 1 → odd ≡ 1 → natAbs lowered % 2 ≡ 0
-  after-odd e o = go (natAbs whole / 2) (omega (arith, abs-out whole))
-    where
-      go : (k : ℕ) → up whole + dn whole ≡ k * 2 + 1 → natAbs lowered % 2 ≡ 0
-      go k f = omega (arith, abs-out lowered)
-
-  lowered-near : Near p lowered
-  lowered-near =
-      let f = floor-out raised (2 ^ 15) (lit< tt) in
-      let g = floor-out p (2 ^ 15) (lit< tt) in
-      record {
-        below = omega (arith, raised-out);
-        above = omega (arith, raised-out);
-        tie-below = λ t. after-even (omega (orders, raised-out)) (omega (arith, raised-out));
-        tie-above = λ t. after-odd (omega (arith, raised-out)) (omega (arith, raised-out));
-      }
-
-pub rounded-code : (p : ℤ) → lowered p ≡ rounded p
-rounded-code p = near-unique (lowered-near p) (rounded-is p)
-
--- in the machine: whether a number is odd is its last bit, and neither sum leaves the word
-odd-bit : (z : ℤ) → SFits w64 z → bitAnd (ofZ w64 z) 1 ≡ natAbs z % 2
-odd-bit (pos n) f = and-mask n 1
-odd-bit (negsuc n) f = and-mask (2 ^ 64 - suc n) 1 ∙ omega (arith, f .sfits)
-
-module _ (p : ℤ) (h : natAbs p ≤ mostTaps * 2 ^ 30) where
-  pub whole-odd : bitAnd (ofZ w64 (whole p)) 1 ≡ odd p
-  whole-odd = odd-bit (whole p) (omega (signed, abs-out p, floor-out p (2 ^ 15) (lit< tt)))
-
-  pub half-fits : SFits w64 (p +ℤ pos 16383)
-  half-fits = omega (signed, abs-out p, add-out p (pos 16383))
-
-  pub raised-fits : SFits w64 (raised p)
-  raised-fits = omega (signed, abs-out p, add-out p (pos 16383), add-out (p +ℤ pos 16383) (pos (odd p)))
-
-  pub lowered-fits : SFits w64 (lowered p)
-  lowered-fits = sfits-le (mag-shr (raised p) (2 ^ 15)) raised-fits

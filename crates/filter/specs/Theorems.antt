@@ -13,7 +13,7 @@ use Rattle.laws.specs.Bound.{abs-add-le, abs-sfits, sfits-mul}
 use Rattle.format.specs.declared.SignedAnswer.the-variants.{Done}
 use Rattle.format.specs.Meaning.{signed, lowest, valueS, flagS, guarded}
 use Rattle.filter.specs.declared.Stepped.{Stepped}
-use Rattle.filter.specs.Meaning.{mostTaps, history, next, sumOf, rounded, held, clips, levelOf, outputOf, clipOf}
+use Rattle.filter.specs.Meaning.{mostTaps, history, next, sumOf, held, clips, levelOf, outputOf, clipOf}
 use Rattle.filter.specs.Meaning.{historyAfter, outputsOf, clipsOf, bitOf, clipped, Run, runOf, tapsFault, stepped, stepOf}
 use Rattle.filter.specs.Range.{Sample, Samples, more, sample-sfits, sample-keeps, unclipped, held-sample}
 use Rattle.filter.specs.Mirror.{mirror, level-mirror, next-mirror, held-mirror, flags-mirror}

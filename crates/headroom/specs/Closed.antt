@@ -1,27 +1,24 @@
 -- The verdict by two sums of the taps: A of the taps above 0, and B of the magnitudes of those below. The driving samples make 32767 A + 32768 B of
 -- them on the way high and -(32768 A + 32767 B) on the way low, and whether the rounding takes that past the end is a comparison. Assumes nothing.
-use mathlib.Core.Path.{_≡_, refl, sym, ap, _∙_}
-use mathlib.Core.Logic.{_↔_, _⊎_, inl, inr}
-use mathlib.Core.Bool.{Bool, true, false, false≢true}
+use mathlib.Core.Path.{_≡_, refl, ap}
+use mathlib.Core.Logic.{_⊎_, inl, inr}
+use mathlib.Core.Bool.{true, false}
 use mathlib.Core.List.{List, [], _∷_}
 use Prim.Native.Nat.{ℕ, zero, suc, _+_, _*_, _-_, _%_, _^_, _≤_, _<_}
 use native.Mathlib.Decide.{decLe}
 use native.Mathlib.Omega.{arith}
 use lib.IntN.{ℤ, pos, negsuc, negℤ, natAbs, _+ℤ_, _*ℤ_}
-use lib.Signed.{ltZ}
 use Rattle.laws.specs.Bound.{abs-out}
 use Rattle.laws.specs.Diff.{up, dn, add-out, up-neg, dn-neg, up-mul, dn-mul, orders}
 use Rattle.laws.specs.Ring.{+ℤ-neg}
 use Rattle.laws.specs.Signed.{signed}
-use Rattle.laws.specs.Tests.{lt-ltZ, ltZ-true, ltZ-false}
 use Rattle.format.specs.Meaning.{lowest, highest}
 use Rattle.filter.specs.Meaning.{sumOf, rounded, levelOf}
-use Rattle.filter.specs.Rounding.{Near, rounded-is}
+use Rattle.filter.specs.Rounding.{rounded-is}
 use Rattle.headroom.specs.declared.peak.Way.{Way}
 use Rattle.headroom.specs.declared.peak.Way.the-variants.{High, Low}
-use Rattle.headroom.specs.Meaning.{drivenOf, driving, passes, clipsWay, verdictOf}
+use Rattle.headroom.specs.Meaning.{drivenOf, driving, passes, clipsWay}
 use Rattle.headroom.specs.Drive.{by-above, by-below, by-zero}
-use Rattle.headroom.specs.Verdict.{Told, high, low, neither, told}
 
 -- A and B, in steps; and the magnitudes of all taps
 unfoldable pub sumAbove : List ℤ → ℕ

@@ -1,5 +1,5 @@
 -- The facts that the headroom check is for, stated of the meaning of the filter itself. Assumes nothing.
-use mathlib.Core.Path.{_≡_, refl, sym, ap, _∙_}
+use mathlib.Core.Path.{_≡_, sym, ap, _∙_}
 use mathlib.Core.Logic.{_↔_, _⊎_, inl, inr}
 use mathlib.Core.Bool.{true, false}
 use mathlib.Core.List.{List, reverse}
@@ -82,8 +82,16 @@ never-2 taps e = go (told taps)
     go (low a b v w) = no-low taps a b
     go (neither a b v) = omega arith
 
+pub zero-or-one : (taps : List ℤ) → (verdictOf taps ≡ 0) ⊎ (verdictOf taps ≡ 1)
+zero-or-one taps = go (told taps)
+  where
+    go : Told taps → (verdictOf taps ≡ 0) ⊎ (verdictOf taps ≡ 1)
+    go (high a v w) = inr v
+    go (low a b v w) = absurd (no-low taps a b)
+    go (neither a b v) = inl v
+
 -- CLOSED FORM. With A the sum of the taps above 0 and B that of the magnitudes of those below, in steps: verdict 0 exactly if A + B is at most
--- 32767, or A + B is 32768 and B below 16384. Else the verdict is 1.
+-- 32767, or A + B is 32768 and B below 16384. Else the verdict is 1 (`zero-or-one`).
 pub closed-form : (taps : List ℤ)
     → (verdictOf taps ≡ 0)
     ↔ ((sumAbove taps + sumBelow taps ≤ 32767) ⊎ ((sumAbove taps + sumBelow taps ≡ 32768) × (sumBelow taps < 16384)))
