@@ -303,7 +303,7 @@ fn speed(random: &mut Random) {
             || once(|| filter(&taps, &mut [0; TAPS], &samples, &mut o, &mut c)),
             || once(|| plain(&taps, &mut [0; TAPS], &samples, &mut p, &mut d)),
         );
-        let (ours, theirs) = (ours.fastest() / BLOCK as f64, theirs.fastest() / BLOCK as f64);
+        let (ours, theirs) = (ours.median() / BLOCK as f64, theirs.median() / BLOCK as f64);
         println!("speed: {n} taps: {ours:.1} ns per sample, Rust {theirs:.1} ns, ratio {:.2}", ours / theirs);
     }
 }

@@ -68,6 +68,7 @@ fn keep(line: &[i16; TAPS], witness: &mut [i16])
 }
 
 // The verdict: the filter's own sum of the driven samples, rounded as the filter rounds, against the ends of the range.
+// No taps come to the 2 (specs/Theorems.antt, `never-2`); the test stands as 01 defines the verdict.
 pub(crate) fn verdict(taps: &[i16], witness: &mut [i16]) -> u64
     requires { ⌜ length (now taps) ≤ mostTaps ⌝ }
     requires { ⌜ length (now witness) ≡ length (now taps) ⌝ }
