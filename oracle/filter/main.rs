@@ -155,7 +155,7 @@ fn judge(t: &mut Tally, taps: &[i16], tries: &[Vec<i16>]) -> usize {
         let allowed = if value == 0 { !output(p).1 } else { p <= exact(taps, &w) };
         see(t, allowed, "samples pass the witness", taps);
     }
-    value as usize
+    usize::from(value != 0)
 }
 
 /// The witness clips high, also through the filter itself, oldest first, from silence; its samples are at the ends, and 0 where the tap is.
