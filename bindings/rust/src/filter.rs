@@ -68,7 +68,8 @@ impl Default for State {
 
 /// A block through the filter with these taps; how many outputs clipped.
 ///
-/// An output is the exact sum of tap x sample, over 2^15, rounded to the nearest, ties to even, then held to the range. `outputs` and `clips` have a place for each sample, else [`Error::WrongLength`]; a clip byte is 1 where the output was held to the range, else 0.
+/// An output is the exact sum of tap x sample, over 2^15, rounded to the nearest, ties to even, then held to the range.
+/// `outputs` and `clips` have a place for each sample, else [`Error::WrongLength`]; a clip byte is 1 where the output was held to the range, else 0.
 /// With a refusal nothing is changed.
 pub fn run(
     taps: &[i16],
