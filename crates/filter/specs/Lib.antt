@@ -11,3 +11,4 @@ pub mod Rounding
 pub mod Run
 pub mod Sum
 pub mod Theorems
+pub mod Window

@@ -57,7 +57,7 @@ unfolding next
 next-length h x e = simp length-take (omega arith)
 
 -- the history after a block: the new samples, newest first, before the old ones, and of these the last 64
-take-inner : (n m : ℕ) (xs ys : List ℤ) → n ≤ m → take n (xs ++ take m ys) ≡ take n (xs ++ ys)
+pub take-inner : (n m : ℕ) (xs ys : List ℤ) → n ≤ m → take n (xs ++ take m ys) ≡ take n (xs ++ ys)
 take-inner n m [] ys h = take-take n m ys h
 take-inner zero m (x ∷ xs) ys h = refl
 take-inner (suc n) m (x ∷ xs) ys h = rw (take-inner n m xs ys (omega arith))

@@ -46,7 +46,7 @@ pub fn step(taps: &[i16], state: State, x: i16) -> Stepped
     }
     let mut samples = state.samples;
     line::push(&mut samples, x);
-    let held = sum::output(taps, &samples);
+    let held = sum::output(taps, &samples[..]);
     Stepped {
         answer: SignedAnswer::Done {
             raw: sum::wide(held.value),

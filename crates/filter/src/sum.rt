@@ -5,7 +5,6 @@ ghost use lib.IntN.{natAbs, _*ℤ_};
 ghost use lib.ListN.{length};
 ghost use Rattle.filter.specs.Meaning.{mostTaps, sumOf, rounded, levelOf};
 ghost use Rattle.filter.specs.Sum.{heldOf};
-use super::TAPS;
 
 // An output, and whether holding changed it.
 pub(crate) struct Held {
@@ -21,9 +20,9 @@ fn product(tap: i16, sample: i16) -> i64
 }
 
 // The exact sum of the products. A plain loop, so that the compiler can take several products at a time.
-fn dot(taps: &[i16], line: &[i16; TAPS]) -> i64
+fn dot(taps: &[i16], line: &[i16]) -> i64
     requires { ⌜ length (now taps) ≤ mostTaps ⌝ }
-    requires { ⌜ length (now line) ≡ mostTaps ⌝ }
+    requires { ⌜ length (now taps) ≤ length (now line) ⌝ }
     ensures { λ r. ⌜ r ≡ sumOf (now (taps .entry)) (now (line .entry)) ⌝ }
     ensures { λ r. ⌜ natAbs r ≤ mostTaps * 2 ^ 30 ⌝ }
 {
@@ -49,9 +48,9 @@ fn round(p: i64) -> i64
 }
 
 // The output before it is held.
-pub fn level(taps: &[i16], line: &[i16; TAPS]) -> i64
+pub fn level(taps: &[i16], line: &[i16]) -> i64
     requires { ⌜ length (now taps) ≤ mostTaps ⌝ }
-    requires { ⌜ length (now line) ≡ mostTaps ⌝ }
+    requires { ⌜ length (now taps) ≤ length (now line) ⌝ }
     ensures { λ r. ⌜ r ≡ levelOf (now (taps .entry)) (now (line .entry)) ⌝ }
 {
     round(dot(taps, line))
@@ -80,9 +79,9 @@ fn hold(y: i64) -> Held
 }
 
 // The output for a line of samples, with its clip flag.
-pub(crate) fn output(taps: &[i16], line: &[i16; TAPS]) -> Held
+pub(crate) fn output(taps: &[i16], line: &[i16]) -> Held
     requires { ⌜ length (now taps) ≤ mostTaps ⌝ }
-    requires { ⌜ length (now line) ≡ mostTaps ⌝ }
+    requires { ⌜ length (now taps) ≤ length (now line) ⌝ }
     ensures { λ r. ⌜ r ≡ heldOf (levelOf (now (taps .entry)) (now (line .entry))) ⌝ }
 {
     hold(level(taps, line))

@@ -76,12 +76,12 @@ pub(crate) fn verdict(taps: &[i16], witness: &mut [i16]) -> u64
         × (now (witness .exit) ≡ witnessOf (now (taps .entry)) (now (witness .entry))) ⌝ }
 {
     let high = drive(Way::High, taps);
-    if 32767 < sum::level(taps, &high) {
+    if 32767 < sum::level(taps, &high[..]) {
         keep(&high, witness);
         return 1;
     }
     let low = drive(Way::Low, taps);
-    if sum::level(taps, &low) < -32768 {
+    if sum::level(taps, &low[..]) < -32768 {
         keep(&low, witness);
         return 2;
     }

@@ -2,6 +2,7 @@
 use mathlib.Core.Path.{_≡_, ap, _∙_, sym}
 use mathlib.Core.Bool.{Bool}
 use mathlib.Core.List.{List}
+use native.Mathlib.Omega.{arith}
 use lib.ListN.{length}
 use lib.IntN.{ℤ}
 use borrow.Author.Needs.{needs}
@@ -32,15 +33,22 @@ same-step : (taps : List ℤ) {y : ℤ} {b : Bool} {line new : List ℤ} → y �
     → stepped (DoneS y b) line ≡ stepped (DoneS (outputOf taps new) (clipOf taps new)) new
 same-step taps o f l = rw (o, f, l)
 
+slice-aggregate-output : tie.Need-slice-aggregate-output
+slice-aggregate-output c =
+    let start = c .before .before .before .before .before .before in
+    let samples = start .args .state .samples in
+    let long : length samples ≡ mostTaps = search needs in
+    sym (ap length (c .before .push .ensures) ∙ next-length samples _ long)
+
 output-requires : tie.Need-output-requires
 output-requires c κs =
     let start = c .before .before .before .before .before .before in
     let taps = c .before .before .before .before .before .taps in
     let samples = start .args .state .samples in
-    let long : length samples ≡ mostTaps = search needs in (
-      taps-few (length (start .args .taps .now)) (sym (taps .ensures) ∙ c .before .before .before .before .if1 .left),
-      rw (c .before .push .ensures) (next-length samples _ long),
-    )
+    let long : length samples ≡ mostTaps = search needs in
+    let few = taps-few (length (start .args .taps .now)) (sym (taps .ensures) ∙ c .before .before .before .before .if1 .left) in
+    let new = next-length samples (toZ w16 (ofZ w16 (start .args .x))) long in
+    (few, rw (c .before .push .ensures, new) few)
 
 wide-requires : tie.Need-wide-requires
 wide-requires c κs = search needs
@@ -65,4 +73,4 @@ returns-2 c =
 pub step-spec : {M : Type 1} → statement M
 step-spec =
     tie.close
-    (tie.spec taps-requires returns push-requires output-requires wide-requires returns-2)
+    (tie.spec taps-requires returns push-requires slice-aggregate-output output-requires wide-requires returns-2)

@@ -36,8 +36,8 @@ shared-slice-copy-out-t c = search needs
 mul-s : tie.Need-mul-s Inv-loop μ-loop
 mul-s c = search needs
 
-element-copy-out-s : tie.Need-element-copy-out-s Inv-loop μ-loop
-element-copy-out-s c = search needs
+shared-slice-copy-out-s : tie.Need-shared-slice-copy-out-s Inv-loop μ-loop
+shared-slice-copy-out-s c = search needs
 
 product-requires : tie.Need-product-requires Inv-loop μ-loop
 product-requires c κs = search needs
@@ -117,7 +117,7 @@ dot-spec =
     mul-t
     shared-slice-copy-out-t
     mul-s
-    element-copy-out-s
+    shared-slice-copy-out-s
     product-requires
     add-sum
     add-i

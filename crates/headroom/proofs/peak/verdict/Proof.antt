@@ -1,6 +1,6 @@
 -- `peak::verdict` meets its contract: each test of the level is the test of the meaning, since the line starts with the driving samples.
 -- Assumes nothing.
-use mathlib.Core.Path.{_≡_, refl, _∙_}
+use mathlib.Core.Path.{_≡_, refl, sym, _∙_}
 use mathlib.Core.Bool.{Bool, true, false}
 use lib.IntN.{pos, negsuc}
 use lib.Signed.{ltZ}
@@ -17,6 +17,9 @@ use Rattle.headroom.proofs.peak.verdict.Tie as tie
 
 drive-requires : tie.Need-drive-requires
 drive-requires c κs = search needs
+
+slice-aggregate-level : tie.Need-slice-aggregate-level
+slice-aggregate-level c = sym (c .before .drive .ensures .0)
 
 level-requires : tie.Need-level-requires
 level-requires c κs = search needs
@@ -59,6 +62,9 @@ returns c =
 drive-requires-2 : tie.Need-drive-requires-2
 drive-requires-2 c κs = search needs
 
+slice-aggregate-level-2 : tie.Need-slice-aggregate-level-2
+slice-aggregate-level-2 c = sym (c .before .drive2 .ensures .0)
+
 level-requires-2 : tie.Need-level-requires-2
 level-requires-2 c κs = search needs
 
@@ -94,11 +100,13 @@ verdict-spec =
     tie.close
     (tie.spec
     drive-requires
+    slice-aggregate-level
     level-requires
     keep-requires
     same-length
     returns
     drive-requires-2
+    slice-aggregate-level-2
     level-requires-2
     keep-requires-2
     same-length-2

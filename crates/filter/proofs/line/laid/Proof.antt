@@ -1,0 +1,81 @@
+-- `line::laid` meets its contract. The loop's invariant: the first i samples of the line are copied behind its room. The measure is what is left.
+-- Assumes nothing.
+use mathlib.Core.Path.{_∙_}
+use Prim.Native.Nat.{_-_}
+use native.Mathlib.Omega.{arith}
+use lib.IntN.{pos}
+use lib.ListN.{getD}
+use lib.Seq.{take-all}
+use borrow.Author.Needs.{needs}
+use mir.Syntax.{w16}
+use Rattle.laws.specs.Signed.{ok-back}
+use Rattle.filter.specs.Meaning.{mostTaps}
+use Rattle.filter.specs.Window.{Copied, none-copied, one-copied, copied-long, all-copied}
+use Rattle.filter.proofs.line.laid.Statement.{statement}
+use Rattle.filter.proofs.line.laid.Tie as tie
+
+abbrev Inv-loop : tie.InvT-loop
+Inv-loop line window₀ i₀ window i = Copied window₀ mostTaps line i window
+
+abbrev μ-loop : tie.MeasureT-loop
+μ-loop line window₀ i₀ window i = mostTaps - i
+
+loop-holds : tie.Need-loop-holds Inv-loop μ-loop
+loop-holds c = none-copied _ mostTaps _
+
+mul-s : tie.Need-mul-s Inv-loop μ-loop
+mul-s c = search needs
+
+element-copy-out-s : tie.Need-element-copy-out-s Inv-loop μ-loop
+element-copy-out-s c = search needs
+
+add-s : tie.Need-add-s Inv-loop μ-loop
+add-s c = search needs
+
+mul-s-2 : tie.Need-mul-s-2 Inv-loop μ-loop
+mul-s-2 c = search needs
+
+element-set-from-s : tie.Need-element-set-from-s Inv-loop μ-loop
+element-set-from-s c = search needs
+
+add-i : tie.Need-add-i Inv-loop μ-loop
+add-i c = search needs
+
+loop-less : tie.Need-loop-less Inv-loop μ-loop
+loop-less c = search needs
+
+loop-again : tie.Need-loop-again Inv-loop μ-loop
+loop-again c =
+    let start = c .before .before .before in
+    let line = start .args .line .now in
+    let window = start .args .window .now in
+    let loop = c .before .before .loop in
+    one-copied window mostTaps line (loop .i) (loop .window) (omega (arith, start .pre .1)) (omega (arith, start .pre .0)) (loop .inv) _ (omega arith)
+    (ok-back w16 (getD line (loop .i) (pos 0)) (c .s .given))
+
+returns : tie.Need-returns Inv-loop μ-loop
+returns c =
+    let start = c .before .before in
+    let line = start .args .line .now in
+    let window = start .args .window .now in
+    let loop = c .before .loop in
+    let long = copied-long window mostTaps line (loop .i) (loop .window) (omega (arith, start .pre .1)) (omega (arith, start .pre .0)) (loop .inv) in
+    let there = all-copied window mostTaps line (loop .i) (loop .window) (omega (arith, start .pre .1)) (omega (arith, start .pre .0)) (loop .inv) (c .loop-test .left) in
+    record { long = long ∙ start .pre .1; here = there ∙ take-all mostTaps line (omega (arith, start .pre .0)) }
+
+pub laid-spec : {M : Type 1} → statement M
+laid-spec =
+    tie.close
+    (tie.spec
+    Inv-loop
+    μ-loop
+    loop-holds
+    mul-s
+    element-copy-out-s
+    add-s
+    mul-s-2
+    element-set-from-s
+    add-i
+    loop-less
+    loop-again
+    returns)
