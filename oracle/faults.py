@@ -58,9 +58,11 @@ BESIDE = {
     "tenth": ("decimal", word(0xCCCCCCCCCCCCCCCD, 1)),
     # cmp $0x7fff,%rax: the highest sample
     "clip": ("filter", [(b"\x48\x3d\xff\x7f\x00\x00", b"\x48\x3d\xfe\x7f\x00\x00")]),
-    # bt $15,%r13d: whether the whole part is odd; adc $16383,%r13 and %r8: half a step less one, in the filter and in the headroom check
-    "even": ("filter", [(b"\x41\x0f\xba\xe5\x0f", b"\x41\x0f\xba\xe5\x10")]),
-    "half": ("filter", [(b"\x49\x81\xd5\xff\x3f\x00\x00", b"\x49\x81\xd5\xfe\x3f\x00\x00")]),
+    # bt $15,%r12d: whether the whole part is odd; adc $16383,%r12 and %r8: half a step less one, in the filter and in the headroom check
+    "even": ("filter", [(b"\x41\x0f\xba\xe4\x0f", b"\x41\x0f\xba\xe4\x10")]),
+    "half": ("filter", [(b"\x49\x81\xd4\xff\x3f\x00\x00", b"\x49\x81\xd4\xfe\x3f\x00\x00")]),
+    # mov $63,%r15d: the place before the line, once it is taken back to the window's end
+    "gap": ("filter", [(b"\x41\xbf\x3f\x00\x00\x00", b"\x41\xbf\x3e\x00\x00\x00")]),
     "half_of_peaks": ("filter", [(b"\x49\x81\xd0\xff\x3f\x00\x00", b"\x49\x81\xd0\xfe\x3f\x00\x00")]),
 }
 ALL = NOTICED | EQUAL | {name: changes for name, (_, changes) in BESIDE.items()}

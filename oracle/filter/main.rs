@@ -241,7 +241,12 @@ fn half_steps(t: &mut Tally) {
     }
 }
 
+/// Blocks of every length up to four lines, with as many taps as there may be; and random ones.
 fn blocks(t: &mut Tally, random: &mut Random) {
+    for len in 0..=4 * TAPS {
+        let (taps, samples) = (raws(random, TAPS), raws(random, len));
+        compare(t, &taps, &state(random), &samples);
+    }
     for _ in 0..4000 {
         let (n, len) = (1 + random.below(TAPS), random.below(200));
         let (taps, samples) = (raws(random, n), raws(random, len));

@@ -34,19 +34,19 @@ slide window new line at x h w e =
     }
 
 -- a loop that copies the first samples of s, as many as a line has, to a place of d: the first i of them are there
-pub record Copied (d : List ℤ) (at : ℕ) (s : List ℤ) (i : ℕ) (new : List ℤ) : Type 0 where
+pub record LaidSoFar (d : List ℤ) (at : ℕ) (s : List ℤ) (i : ℕ) (new : List ℤ) : Type 0 where
   pub place : i ≤ mostTaps
   pub so-far : new ≡ paste d at s i
 
-pub none-copied : (d : List ℤ) (at : ℕ) (s : List ℤ) → Copied d at s 0 d
+pub none-copied : (d : List ℤ) (at : ℕ) (s : List ℤ) → LaidSoFar d at s 0 d
 none-copied d at s = record { place = omega arith; so-far = paste-zero d at s }
 
 module _ (d : List ℤ) (at : ℕ) (s : List ℤ) (i : ℕ) (new : List ℤ) (room : at + mostTaps ≤ length d) (enough : mostTaps ≤ length s)
-    (c : Copied d at s i new) where
+    (c : LaidSoFar d at s i new) where
   pub copied-long : length new ≡ length d
   copied-long = rw (c .so-far) (length-paste d at s i (omega (arith, c .place)) (omega (arith, c .place)))
 
-  pub one-copied : (v : ℤ) → i < mostTaps → v ≡ getD s i (pos 0) → Copied d at s (i + 1) (set new (at + i) v)
+  pub one-copied : (v : ℤ) → i < mostTaps → v ≡ getD s i (pos 0) → LaidSoFar d at s (i + 1) (set new (at + i) v)
   one-copied v h e =
       record { place = omega arith; so-far = rw (c .so-far, e, add-one i) (paste-suc d at s i (pos 0) (omega arith) (omega arith)) }
 
@@ -59,8 +59,12 @@ module _ (d : List ℤ) (at : ℕ) (s : List ℤ) (i : ℕ) (new : List ℤ) (ro
       (drop-at (take at d) (take mostTaps s ++ rest) at (length-take-le at d (omega arith))) in
       rw there (take-at (take mostTaps s) rest mostTaps (length-take-le mostTaps s enough))
 
+  -- where that is a window, the line now stands there
+  pub copied-at : length d ≡ mostTaps + mostTaps → mostTaps ≤ i → At new at (take mostTaps s)
+  copied-at long h = record { long = copied-long ∙ long; here = all-copied h }
+
 -- what stands before that place is as it was
-pub not-copied : (d : List ℤ) (at : ℕ) (s : List ℤ) (i k : ℕ) (new : List ℤ) → at ≤ length d → k < at → Copied d at s i new
+pub not-copied : (d : List ℤ) (at : ℕ) (s : List ℤ) (i k : ℕ) (new : List ℤ) → at ≤ length d → k < at → LaidSoFar d at s i new
     → getD new k (pos 0) ≡ getD d k (pos 0)
 not-copied d at s i k new room h c =
     let front = take at d in

@@ -2,7 +2,6 @@
 use mathlib.Core.Path.{_≡_, ap, _∙_, sym}
 use mathlib.Core.Bool.{Bool}
 use mathlib.Core.List.{List}
-use native.Mathlib.Omega.{arith}
 use lib.ListN.{length}
 use lib.IntN.{ℤ}
 use borrow.Author.Needs.{needs}
@@ -44,11 +43,8 @@ output-requires : tie.Need-output-requires
 output-requires c κs =
     let start = c .before .before .before .before .before .before in
     let taps = c .before .before .before .before .before .taps in
-    let samples = start .args .state .samples in
-    let long : length samples ≡ mostTaps = search needs in
     let few = taps-few (length (start .args .taps .now)) (sym (taps .ensures) ∙ c .before .before .before .before .if1 .left) in
-    let new = next-length samples (toZ w16 (ofZ w16 (start .args .x))) long in
-    (few, rw (c .before .push .ensures, new) few)
+    (few, rw (← slice-aggregate-output c) few)
 
 wide-requires : tie.Need-wide-requires
 wide-requires c κs = search needs

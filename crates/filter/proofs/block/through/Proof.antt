@@ -33,7 +33,8 @@ loop-holds c =
     let before = c .before .before .before .before .before in
     let a = before .args in
     let laid = c .laid .ensures in
-    let none = start (a .taps .now) (a .line .now) (a .samples .now) (a .outputs .now) (a .clips .now) (before .pre .1 .0) (before .pre .1 .1 .0) (before .pre .1 .1 .1) in
+    let fit = before .pre .1 .1 in
+    let none = start (a .taps .now) (a .line .now) (a .samples .now) (a .outputs .now) (a .clips .now) (before .pre .1 .0) (fit .0) (fit .1) in
     (omega arith, (laid .long, rw (laid .here) none))
 
 mul-x : tie.Need-mul-x Inv-loop μ-loop

@@ -1,20 +1,20 @@
 -- `line::ahead` meets its contract: either the line stays, or the loop copies it to the end. The loop's invariant: the first i samples are copied;
 -- those that are read stand before that place. The measure is what is left. Assumes nothing.
 use mathlib.Core.Path.{_≡_, sym, ap, _∙_}
-use Prim.Native.Nat.{ℕ, _+_, _-_}
+use Prim.Native.Nat.{ℕ, _+_, _-_, _≤_}
 use native.Mathlib.Omega.{arith}
 use lib.IntN.{pos}
-use lib.ListN.{take, drop, getD}
+use lib.ListN.{length, take, drop, getD}
 use borrow.Author.Needs.{needs}
 use mir.Syntax.{w16}
 use Rattle.laws.specs.Signed.{ok-back}
 use Rattle.filter.specs.Meaning.{mostTaps}
-use Rattle.filter.specs.Window.{Copied, none-copied, one-copied, copied-long, not-copied, all-copied}
+use Rattle.filter.specs.Window.{LaidSoFar, none-copied, one-copied, not-copied, copied-at}
 use Rattle.filter.proofs.line.ahead.Statement.{statement}
 use Rattle.filter.proofs.line.ahead.Tie as tie
 
 abbrev Inv-loop : tie.InvT-loop
-Inv-loop window₀ at i₀ window i = Copied window₀ mostTaps window₀ i window
+Inv-loop window₀ at i₀ window i = LaidSoFar window₀ mostTaps window₀ i window
 
 abbrev μ-loop : tie.MeasureT-loop
 μ-loop window₀ at i₀ window i = mostTaps - i
@@ -24,8 +24,10 @@ sub-result c = search needs
 
 returns : tie.Need-returns Inv-loop μ-loop
 returns c =
-    let stay : c .before .args .at - 1 + 1 ≡ c .before .args .at = omega arith in
-    (omega (arith, c .before .pre .1), record { long = c .before .pre .0; here = ap (λ (k : ℕ). take mostTaps (drop k (c .before .args .window .now))) stay })
+    let a = c .before .args in
+    let stay : a .at - 1 + 1 ≡ a .at = omega arith in
+    let line = ap (λ (k : ℕ). take mostTaps (drop k (a .window .now))) stay in
+    (omega (arith, c .before .pre .1), record { long = c .before .pre .0; here = line })
 
 loop-holds : tie.Need-loop-holds Inv-loop μ-loop
 loop-holds c = none-copied _ mostTaps _
@@ -69,10 +71,12 @@ returns-2 c =
     let window = start .args .window .now in
     let loop = c .before .loop in
     let front : start .args .at ≡ 0 = omega arith in
-    let there = all-copied window mostTaps window (loop .i) (loop .window) (omega (arith, start .pre .0)) (omega (arith, start .pre .0)) (loop .inv) (c .loop-test .left) in
-    let long = copied-long window mostTaps window (loop .i) (loop .window) (omega (arith, start .pre .0)) (omega (arith, start .pre .0)) (loop .inv) in (
+    let enough : mostTaps ≤ length window = omega (arith, start .pre .0) in
+    let there =
+    copied-at window mostTaps window (loop .i) (loop .window) (omega (arith, start .pre .0)) enough (loop .inv) (start .pre .0)
+    (c .loop-test .left) in (
       omega arith,
-      record { long = long ∙ start .pre .0; here = there ∙ ap (λ (k : ℕ). take mostTaps (drop k window)) (sym front) },
+      record { long = there .long; here = there .here ∙ ap (λ (k : ℕ). take mostTaps (drop k window)) (sym front) },
     )
 
 pub ahead-spec : {M : Type 1} → statement M

@@ -11,12 +11,12 @@ use borrow.Author.Needs.{needs}
 use mir.Syntax.{w16}
 use Rattle.laws.specs.Signed.{ok-back}
 use Rattle.filter.specs.Meaning.{mostTaps}
-use Rattle.filter.specs.Window.{Copied, none-copied, one-copied, copied-long, all-copied}
+use Rattle.filter.specs.Window.{LaidSoFar, none-copied, one-copied, copied-long, all-copied}
 use Rattle.filter.proofs.line.kept.Statement.{statement}
 use Rattle.filter.proofs.line.kept.Tie as tie
 
 abbrev Inv-loop : tie.InvT-loop
-Inv-loop window at line₀ i₀ line i = Copied line₀ 0 (drop at window) i line
+Inv-loop window at line₀ i₀ line i = LaidSoFar line₀ 0 (drop at window) i line
 
 abbrev μ-loop : tie.MeasureT-loop
 μ-loop window at line₀ i₀ line i = mostTaps - i
@@ -50,10 +50,12 @@ loop-again c =
     let a = c .before .before .before .args in
     let loop = c .before .before .loop in
     let pre = c .before .before .before .pre in
-    let enough : mostTaps ≤ length (drop (a .at) (a .window .now)) = simp length-drop (omega (arith, pre .0, pre .1 .0)) in
+    let from = drop (a .at) (a .window .now) in
+    let enough : mostTaps ≤ length from = simp length-drop (omega (arith, pre .0, pre .1 .0)) in
+    let s = getD (a .window .now) (a .at + loop .i) (pos 0) in
     let copied =
-    one-copied (a .line .now) 0 (drop (a .at) (a .window .now)) (loop .i) (loop .line) (omega (arith, pre .1 .1)) enough (loop .inv) _ (omega arith)
-    (ok-back w16 (getD (a .window .now) (a .at + loop .i) (pos 0)) (c .s .given) ∙ sym (getD-drop (a .at) (a .window .now) (loop .i) (pos 0))) in
+    one-copied (a .line .now) 0 from (loop .i) (loop .line) (omega (arith, pre .1 .1)) enough (loop .inv) _ (omega arith)
+    (ok-back w16 s (c .s .given) ∙ sym (getD-drop (a .at) (a .window .now) (loop .i) (pos 0))) in
     rw (zero-add (loop .i)) at copied
 
 returns : tie.Need-returns Inv-loop μ-loop
@@ -61,9 +63,10 @@ returns c =
     let a = c .before .before .args in
     let loop = c .before .loop in
     let pre = c .before .before .pre in
-    let enough : mostTaps ≤ length (drop (a .at) (a .window .now)) = simp length-drop (omega (arith, pre .0, pre .1 .0)) in
-    let long = copied-long (a .line .now) 0 (drop (a .at) (a .window .now)) (loop .i) (loop .line) (omega (arith, pre .1 .1)) enough (loop .inv) in
-    let all = all-copied (a .line .now) 0 (drop (a .at) (a .window .now)) (loop .i) (loop .line) (omega (arith, pre .1 .1)) enough (loop .inv) (c .loop-test .left) in
+    let from = drop (a .at) (a .window .now) in
+    let enough : mostTaps ≤ length from = simp length-drop (omega (arith, pre .0, pre .1 .0)) in
+    let long = copied-long (a .line .now) 0 from (loop .i) (loop .line) (omega (arith, pre .1 .1)) enough (loop .inv) in
+    let all = all-copied (a .line .now) 0 from (loop .i) (loop .line) (omega (arith, pre .1 .1)) enough (loop .inv) (c .loop-test .left) in
     sym (take-all mostTaps (loop .line) (omega (arith, long, pre .1 .1))) ∙ all
 
 pub kept-spec : {M : Type 1} → statement M

@@ -1,6 +1,5 @@
 -- `line::laid` meets its contract. The loop's invariant: the first i samples of the line are copied behind its room. The measure is what is left.
 -- Assumes nothing.
-use mathlib.Core.Path.{_∙_}
 use Prim.Native.Nat.{_-_}
 use native.Mathlib.Omega.{arith}
 use lib.IntN.{pos}
@@ -10,12 +9,12 @@ use borrow.Author.Needs.{needs}
 use mir.Syntax.{w16}
 use Rattle.laws.specs.Signed.{ok-back}
 use Rattle.filter.specs.Meaning.{mostTaps}
-use Rattle.filter.specs.Window.{Copied, none-copied, one-copied, copied-long, all-copied}
+use Rattle.filter.specs.Window.{LaidSoFar, none-copied, one-copied, copied-at}
 use Rattle.filter.proofs.line.laid.Statement.{statement}
 use Rattle.filter.proofs.line.laid.Tie as tie
 
 abbrev Inv-loop : tie.InvT-loop
-Inv-loop line window₀ i₀ window i = Copied window₀ mostTaps line i window
+Inv-loop line window₀ i₀ window i = LaidSoFar window₀ mostTaps line i window
 
 abbrev μ-loop : tie.MeasureT-loop
 μ-loop line window₀ i₀ window i = mostTaps - i
@@ -59,9 +58,10 @@ returns c =
     let line = start .args .line .now in
     let window = start .args .window .now in
     let loop = c .before .loop in
-    let long = copied-long window mostTaps line (loop .i) (loop .window) (omega (arith, start .pre .1)) (omega (arith, start .pre .0)) (loop .inv) in
-    let there = all-copied window mostTaps line (loop .i) (loop .window) (omega (arith, start .pre .1)) (omega (arith, start .pre .0)) (loop .inv) (c .loop-test .left) in
-    record { long = long ∙ start .pre .1; here = there ∙ take-all mostTaps line (omega (arith, start .pre .0)) }
+    let there =
+    copied-at window mostTaps line (loop .i) (loop .window) (omega (arith, start .pre .1)) (omega (arith, start .pre .0)) (loop .inv) (start .pre .1)
+    (c .loop-test .left) in
+    rw (take-all mostTaps line (omega (arith, start .pre .0))) at there
 
 pub laid-spec : {M : Type 1} → statement M
 laid-spec =
