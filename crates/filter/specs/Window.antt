@@ -6,8 +6,8 @@ use Prim.Native.Nat.{ℕ, suc, _+_, _≤_, _<_}
 use native.Mathlib.Numerals.{add-one}
 use native.Mathlib.Omega.{arith}
 use lib.IntN.{ℤ, pos}
-use lib.ListN.{length, take, drop, getD, set, length-set, List·getD-append}
-use lib.Seq.{take-take, set-split, take-at, drop-at, getD-take, length-take-le, paste, paste-zero, paste-suc, length-paste}
+use lib.ListN.{length, take, drop, getD, set, length-set, length-drop}
+use lib.Seq.{take-take, set-split, take-at, drop-at, length-take-le, paste, paste-zero, paste-suc, length-paste}
 use Rattle.filter.specs.Meaning.{mostTaps, next, sumOf, levelOf}
 use Rattle.filter.specs.Run.{take-inner}
 use Rattle.filter.specs.Sum.{sum-take}
@@ -16,6 +16,10 @@ use Rattle.filter.specs.Sum.{sum-take}
 pub record At (window : List ℤ) (at : ℕ) (line : List ℤ) : Type 0 where
   pub long : length window ≡ mostTaps + mostTaps
   pub here : take mostTaps (drop at window) ≡ line
+
+-- wherever it stands, it has all its places
+pub line-long : (window : List ℤ) (at : ℕ) → length window ≡ mostTaps + mostTaps → at ≤ mostTaps → length (take mostTaps (drop at window)) ≡ mostTaps
+line-long window at long h = length-take-le mostTaps (drop at window) (simp length-drop (omega arith))
 
 -- a sample in front of it
 inner : (x : ℤ) (rest : List ℤ) → take mostTaps (x ∷ rest) ≡ take mostTaps (x ∷ take mostTaps rest)
@@ -62,16 +66,6 @@ module _ (d : List ℤ) (at : ℕ) (s : List ℤ) (i : ℕ) (new : List ℤ) (ro
   -- where that is a window, the line now stands there
   pub copied-at : length d ≡ mostTaps + mostTaps → mostTaps ≤ i → At new at (take mostTaps s)
   copied-at long h = record { long = copied-long ∙ long; here = all-copied h }
-
--- what stands before that place is as it was
-pub not-copied : (d : List ℤ) (at : ℕ) (s : List ℤ) (i k : ℕ) (new : List ℤ) → at ≤ length d → k < at → LaidSoFar d at s i new
-    → getD new k (pos 0) ≡ getD d k (pos 0)
-not-copied d at s i k new room h c =
-    let front = take at d in
-    let rest = take i s ++ drop (at + i) d in
-    let within : k < length front = rw (length-take-le at d room) h in
-    rw (c .so-far, append-assoc front (take i s) (drop (at + i) d)) (List·getD-append front rest (pos 0) k within)
-    ∙ getD-take at d k (pos 0) h
 
 -- the sum over the line is the sum over all that stands from its place on
 pub level-take : (taps samples : List ℤ) → length taps ≤ mostTaps → levelOf taps samples ≡ levelOf taps (take mostTaps samples)

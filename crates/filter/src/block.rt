@@ -52,7 +52,7 @@ pub(crate) fn through(
     let mut i = 0;
     while i < samples.len() {
         let x = samples[i];
-        at = line::ahead(&mut window, at);
+        at = line::ahead(&mut window, at, line);
         let held = turn(taps, &mut window, at, x);
         let y = held.value;
         let b = bit(held.clipped);

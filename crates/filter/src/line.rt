@@ -53,25 +53,6 @@ pub(crate) fn laid(line: &[i16; TAPS], window: &mut [i16; ROOM])
     }
 }
 
-// The place before the newest sample. Where the line has come to the front, it is taken back to the end.
-pub(crate) fn ahead(window: &mut [i16; ROOM], at: usize) -> usize
-    requires { ⌜ length (now window) ≡ mostTaps + mostTaps ⌝ }
-    requires { ⌜ at ≤ mostTaps ⌝ }
-    ensures { λ r. ⌜ r < mostTaps ⌝ }
-    ensures { λ r. ⌜ At (now (window .exit)) (r + 1) (take mostTaps (drop at (now (window .entry)))) ⌝ }
-{
-    if at != 0 {
-        return at - 1;
-    }
-    let mut i = 0;
-    while i < TAPS {
-        let s = window[i];
-        window[TAPS + i] = s;
-        i += 1;
-    }
-    TAPS - 1
-}
-
 // The line at a place of the window.
 pub(crate) fn kept(window: &[i16; ROOM], at: usize, line: &mut [i16; TAPS])
     requires { ⌜ length (now window) ≡ mostTaps + mostTaps ⌝ }
@@ -85,4 +66,21 @@ pub(crate) fn kept(window: &[i16; ROOM], at: usize, line: &mut [i16; TAPS])
         line[i] = s;
         i += 1;
     }
+}
+
+// The place before the newest sample. Where the line has come to the front, it is laid at the end again.
+pub(crate) fn ahead(window: &mut [i16; ROOM], at: usize, line: &mut [i16; TAPS]) -> usize
+    requires { ⌜ length (now window) ≡ mostTaps + mostTaps ⌝ }
+    requires { ⌜ at ≤ mostTaps ⌝ }
+    requires { ⌜ length (now line) ≡ mostTaps ⌝ }
+    ensures { λ r. ⌜ r < mostTaps ⌝ }
+    ensures { λ r. ⌜ At (now (window .exit)) (r + 1) (take mostTaps (drop at (now (window .entry)))) ⌝ }
+    ensures { λ _. ⌜ length (now (line .exit)) ≡ mostTaps ⌝ }
+{
+    if at != 0 {
+        return at - 1;
+    }
+    kept(window, at, line);
+    laid(line, window);
+    TAPS - 1
 }

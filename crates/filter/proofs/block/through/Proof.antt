@@ -16,11 +16,13 @@ use Rattle.filter.proofs.block.through.Statement.{statement}
 use Rattle.filter.proofs.block.through.Tie as tie
 
 abbrev Inv-loop : tie.InvT-loop
-Inv-loop taps line samples outputs₀ clips₀ window₀ at₀ count₀ i₀ outputs clips window at count i =
-    (at ≤ mostTaps) × ((length window ≡ mostTaps + mostTaps) × SoFar taps line samples i (take mostTaps (drop at window)) outputs clips count)
+Inv-loop taps line₀ samples outputs₀ clips₀ window₀ at₀ count₀ i₀ line outputs clips window at count i =
+    (at ≤ mostTaps)
+    × ((length window ≡ mostTaps + mostTaps)
+    × ((length line ≡ mostTaps) × SoFar taps line₀ samples i (take mostTaps (drop at window)) outputs clips count))
 
 abbrev μ-loop : tie.MeasureT-loop
-μ-loop taps line samples outputs₀ clips₀ window₀ at₀ count₀ i₀ outputs clips window at count i = length samples - i
+μ-loop taps line₀ samples outputs₀ clips₀ window₀ at₀ count₀ i₀ line outputs clips window at count i = length samples - i
 
 room-requires : tie.Need-room-requires Inv-loop μ-loop
 room-requires c κs = search needs
@@ -35,7 +37,7 @@ loop-holds c =
     let laid = c .laid .ensures in
     let fit = before .pre .1 .1 in
     let none = start (a .taps .now) (a .line .now) (a .samples .now) (a .outputs .now) (a .clips .now) (before .pre .1 .0) (fit .0) (fit .1) in
-    (omega arith, (laid .long, rw (laid .here) none))
+    (omega arith, (laid .long, (before .pre .1 .0, rw (laid .here) none)))
 
 mul-x : tie.Need-mul-x Inv-loop μ-loop
 mul-x c = search needs
@@ -81,19 +83,22 @@ unfolding outputOf clipOf
 loop-again c =
     let turn = c .before .before .before in
     let ahead = turn .before .before in
-    let test = ahead .before .before .before in
+    let test = ahead .before .before .before .before in
     let loop = test .before .loop in
     let samples = test .before .before .before .before .before .before .before .args .samples .now in
     let x = getD samples (loop .i) (pos 0) in
-    let line = slide _ _ _ _ _ (ahead .ahead .ensures .0) (ahead .ahead .ensures .1) (turn .turn .ensures .0) in
+    let line = slide _ _ _ _ _ (ahead .ahead .ensures .0) (ahead .ahead .ensures .1 .0) (turn .turn .ensures .0) in
     let output = turn .turn .ensures .1 in
     let value = c .before .struct-told .given .0 .1 in (
       omega (arith, ahead .ahead .ensures .0),
       (
         line .long,
-        more _ _ _ _ _ _ _ _ (loop .inv .1 .1) _ _ _ (test .loop-test .taken) (rw (ok-back w16 x (ahead .before .before .x .given)) at (line .here))
-            (ok-back w16 (turn .turn .result .value) value ∙ ap (λ (h : Held). h .value) output)
-            (c .bit .ensures ∙ ap (λ (h : Held). bitOf (h .clipped)) output),
+        (
+          ahead .ahead .ensures .1 .1,
+          more _ _ _ _ _ _ _ _ (loop .inv .1 .1 .1) _ _ _ (test .loop-test .taken) (rw (ok-back w16 x (ahead .before .before .before .x .given)) at (line .here))
+              (ok-back w16 (turn .turn .result .value) value ∙ ap (λ (h : Held). h .value) output)
+              (c .bit .ensures ∙ ap (λ (h : Held). bitOf (h .clipped)) output),
+        ),
       ),
     )
 
@@ -110,7 +115,7 @@ returns : tie.Need-returns Inv-loop μ-loop
 returns c =
     let kept = c .kept .ensures in
     let loop = c .before .before .before .before .loop in
-    rw kept (end _ _ _ _ _ _ _ _ (loop .inv .1 .1) (c .before .before .before .loop-test .left))
+    rw kept (end _ _ _ _ _ _ _ _ (loop .inv .1 .1 .1) (c .before .before .before .loop-test .left))
 
 pub through-spec : {M : Type 1} → statement M
 through-spec =
