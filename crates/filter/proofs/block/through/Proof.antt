@@ -89,13 +89,14 @@ loop-again c =
     let x = getD samples (loop .i) (pos 0) in
     let line = slide _ _ _ _ _ (ahead .ahead .ensures .0) (ahead .ahead .ensures .1 .0) (turn .turn .ensures .0) in
     let output = turn .turn .ensures .1 in
-    let value = c .before .struct-told .given .0 .1 in (
+    let value = c .before .struct-told .given .0 .1 in
+    let next = rw (ok-back w16 x (ahead .before .before .before .x .given)) at (line .here) in (
       omega (arith, ahead .ahead .ensures .0),
       (
         line .long,
         (
           ahead .ahead .ensures .1 .1,
-          more _ _ _ _ _ _ _ _ (loop .inv .1 .1 .1) _ _ _ (test .loop-test .taken) (rw (ok-back w16 x (ahead .before .before .before .x .given)) at (line .here))
+          more _ _ _ _ _ _ _ _ (loop .inv .1 .1 .1) _ _ _ (test .loop-test .taken) next
               (ok-back w16 (turn .turn .result .value) value ∙ ap (λ (h : Held). h .value) output)
               (c .bit .ensures ∙ ap (λ (h : Held). bitOf (h .clipped)) output),
         ),
