@@ -1,5 +1,5 @@
--- The window that the line slides down in: which line stands at a place of it, what a sample in front makes of it, and that the sum needs no more
--- than the line. Assumes nothing.
+-- The window that the line slides down in: which line stands at a place of it, what a sample in front makes of it, how a line is laid at its end,
+-- and that the sum needs no more than the line. Assumes nothing.
 use mathlib.Core.Path.{_≡_, sym, _∙_}
 use mathlib.Core.List.{List, [], _∷_, _++_, append-assoc}
 use Prim.Native.Nat.{ℕ, suc, _+_, _≤_, _<_}
@@ -7,7 +7,7 @@ use native.Mathlib.Numerals.{add-one}
 use native.Mathlib.Omega.{arith}
 use lib.IntN.{ℤ, pos}
 use lib.ListN.{length, take, drop, getD, set, length-set, length-drop}
-use lib.Seq.{take-take, set-split, take-at, drop-at, length-take-le, paste, paste-zero, paste-suc, length-paste}
+use lib.Seq.{take-take, take-all, take-at, drop-at, set-split, length-take-le, paste, paste-zero, paste-suc, length-paste}
 use Rattle.filter.specs.Meaning.{mostTaps, next, sumOf, levelOf}
 use Rattle.filter.specs.Run.{take-inner}
 use Rattle.filter.specs.Sum.{sum-take}
@@ -37,35 +37,31 @@ slide window new line at x h w e =
       here = rw (e, front, ← w .here, add-one at) (inner x (drop (suc at) window));
     }
 
--- a loop that copies the first samples of s, as many as a line has, to a place of d: the first i of them are there
-pub record LaidSoFar (d : List ℤ) (at : ℕ) (s : List ℤ) (i : ℕ) (new : List ℤ) : Type 0 where
+-- a line that is laid at the end of a window, d: its first i samples are there; and once all are, it stands there
+pub record LaidSoFar (d line : List ℤ) (i : ℕ) (window : List ℤ) : Type 0 where
   pub place : i ≤ mostTaps
-  pub so-far : new ≡ paste d at s i
+  pub so-far : window ≡ paste d mostTaps line i
 
-pub none-copied : (d : List ℤ) (at : ℕ) (s : List ℤ) → LaidSoFar d at s 0 d
-none-copied d at s = record { place = omega arith; so-far = paste-zero d at s }
+pub none-laid : (d line : List ℤ) → LaidSoFar d line 0 d
+none-laid d line = record { place = omega arith; so-far = paste-zero d mostTaps line }
 
-module _ (d : List ℤ) (at : ℕ) (s : List ℤ) (i : ℕ) (new : List ℤ) (room : at + mostTaps ≤ length d) (enough : mostTaps ≤ length s)
-    (c : LaidSoFar d at s i new) where
-  pub copied-long : length new ≡ length d
-  copied-long = rw (c .so-far) (length-paste d at s i (omega (arith, c .place)) (omega (arith, c .place)))
+module _ (d line : List ℤ) (i : ℕ) (window : List ℤ) (room : length d ≡ mostTaps + mostTaps) (long : length line ≡ mostTaps)
+    (s : LaidSoFar d line i window) where
+  pub one-laid : (v : ℤ) → i < mostTaps → v ≡ getD line i (pos 0) → LaidSoFar d line (i + 1) (set window (mostTaps + i) v)
+  one-laid v h e =
+      record { place = omega arith; so-far = rw (s .so-far, e, add-one i) (paste-suc d mostTaps line i (pos 0) (omega arith) (omega arith)) }
 
-  pub one-copied : (v : ℤ) → i < mostTaps → v ≡ getD s i (pos 0) → LaidSoFar d at s (i + 1) (set new (at + i) v)
-  one-copied v h e =
-      record { place = omega arith; so-far = rw (c .so-far, e, add-one i) (paste-suc d at s i (pos 0) (omega arith) (omega arith)) }
-
-  pub all-copied : mostTaps ≤ i → take mostTaps (drop at new) ≡ take mostTaps s
-  all-copied h =
-      let end : i ≡ mostTaps = omega (arith, c .place) in
-      let rest = drop (at + mostTaps) d in
-      let there : drop at new ≡ take mostTaps s ++ rest
-      = rw (c .so-far, end, append-assoc (take at d) (take mostTaps s) rest)
-      (drop-at (take at d) (take mostTaps s ++ rest) at (length-take-le at d (omega arith))) in
-      rw there (take-at (take mostTaps s) rest mostTaps (length-take-le mostTaps s enough))
-
-  -- where that is a window, the line now stands there
-  pub copied-at : length d ≡ mostTaps + mostTaps → mostTaps ≤ i → At new at (take mostTaps s)
-  copied-at long h = record { long = copied-long ∙ long; here = all-copied h }
+  pub all-laid : mostTaps ≤ i → At window mostTaps line
+  all-laid h =
+      let front = take mostTaps d in
+      let whole : take i line ≡ line = take-all i line (omega arith) in
+      let rest = drop (mostTaps + i) d in
+      let there : drop mostTaps window ≡ line ++ rest
+      = rw (s .so-far, whole, append-assoc front line rest) (drop-at front (line ++ rest) mostTaps (length-take-le mostTaps d (omega arith))) in
+      record {
+        long = rw (s .so-far) (length-paste d mostTaps line i (omega (arith, s .place)) (omega (arith, s .place)) ∙ room);
+        here = rw there (take-at line rest mostTaps long);
+      }
 
 -- the sum over the line is the sum over all that stands from its place on
 pub level-take : (taps samples : List ℤ) → length taps ≤ mostTaps → levelOf taps samples ≡ levelOf taps (take mostTaps samples)

@@ -1,28 +1,28 @@
--- `line::kept` meets its contract. The loop's invariant: the first i samples from the place on are copied. The measure is what is left.
+-- `line::kept` meets its contract. The loop's invariant: the first i places are those of the line in the window, the rest is as it was. The measure is what is left.
 -- Assumes nothing.
-use mathlib.Core.Path.{sym, _∙_}
-use Prim.Native.Nat.{_+_, _-_, _≤_}
-use native.Mathlib.Nat.{zero-add}
+use mathlib.Core.Path.{_≡_, refl, sym, _∙_}
+use mathlib.Core.List.{_++_}
+use Prim.Native.Nat.{_+_, _-_, _≤_, _<_}
 use native.Mathlib.Omega.{arith}
 use lib.IntN.{pos}
-use lib.ListN.{length, drop, getD, length-drop}
-use lib.Seq.{getD-drop, take-all}
+use lib.ListN.{length, take, drop, getD, length-drop}
+use lib.Seq.{getD-drop}
 use borrow.Author.Needs.{needs}
 use mir.Syntax.{w16}
 use Rattle.laws.specs.Signed.{ok-back}
 use Rattle.filter.specs.Meaning.{mostTaps}
-use Rattle.filter.specs.Window.{LaidSoFar, none-copied, one-copied, copied-long, all-copied}
+use Rattle.filter.specs.Line.{new-here, all-new}
 use Rattle.filter.proofs.line.kept.Statement.{statement}
 use Rattle.filter.proofs.line.kept.Tie as tie
 
 abbrev Inv-loop : tie.InvT-loop
-Inv-loop window at line₀ i₀ line i = LaidSoFar line₀ 0 (drop at window) i line
+Inv-loop window at line₀ i₀ line i = (i ≤ mostTaps) × (line ≡ take i (drop at window) ++ drop i line₀)
 
 abbrev μ-loop : tie.MeasureT-loop
 μ-loop window at line₀ i₀ line i = mostTaps - i
 
 loop-holds : tie.Need-loop-holds Inv-loop μ-loop
-loop-holds c = none-copied _ 0 _
+loop-holds c = (omega arith, refl)
 
 add-s : tie.Need-add-s Inv-loop μ-loop
 add-s c = search needs
@@ -47,27 +47,22 @@ loop-less c = search needs
 
 loop-again : tie.Need-loop-again Inv-loop μ-loop
 loop-again c =
-    let a = c .before .before .before .args in
+    let start = c .before .before .before in
+    let a = start .args in
     let loop = c .before .before .loop in
-    let pre = c .before .before .before .pre in
-    let from = drop (a .at) (a .window .now) in
-    let enough : mostTaps ≤ length from = simp length-drop (omega (arith, pre .0, pre .1 .0)) in
     let s = getD (a .window .now) (a .at + loop .i) (pos 0) in
-    let copied =
-    one-copied (a .line .now) 0 from (loop .i) (loop .line) (omega (arith, pre .1 .1)) enough (loop .inv) _ (omega arith)
-    (ok-back w16 s (c .s .given) ∙ sym (getD-drop (a .at) (a .window .now) (loop .i) (pos 0))) in
-    rw (zero-add (loop .i)) at copied
+    let here = ok-back w16 s (c .s .given) ∙ sym (getD-drop (a .at) (a .window .now) (loop .i) (pos 0)) in
+    let enough : loop .i < length (drop (a .at) (a .window .now)) = simp length-drop (omega (arith, start .pre .0, start .pre .1 .0)) in (
+      omega arith,
+      new-here (a .line .now) (drop (a .at) (a .window .now)) (loop .line) (pos 0) (loop .i) (omega (arith, start .pre .1 .1)) enough (loop .inv .1) _ here,
+    )
 
 returns : tie.Need-returns Inv-loop μ-loop
 returns c =
-    let a = c .before .before .args in
+    let start = c .before .before in
     let loop = c .before .loop in
-    let pre = c .before .before .pre in
-    let from = drop (a .at) (a .window .now) in
-    let enough : mostTaps ≤ length from = simp length-drop (omega (arith, pre .0, pre .1 .0)) in
-    let long = copied-long (a .line .now) 0 from (loop .i) (loop .line) (omega (arith, pre .1 .1)) enough (loop .inv) in
-    let all = all-copied (a .line .now) 0 from (loop .i) (loop .line) (omega (arith, pre .1 .1)) enough (loop .inv) (c .loop-test .left) in
-    sym (take-all mostTaps (loop .line) (omega (arith, long, pre .1 .1))) ∙ all
+    let end : loop .i ≡ mostTaps = omega (arith, loop .inv .0) in
+    rw end at (all-new (start .args .line .now) _ (loop .line) (loop .i) (omega (arith, start .pre .1 .1)) (loop .inv .1))
 
 pub kept-spec : {M : Type 1} → statement M
 kept-spec =

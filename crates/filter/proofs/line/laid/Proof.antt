@@ -4,23 +4,22 @@ use Prim.Native.Nat.{_-_}
 use native.Mathlib.Omega.{arith}
 use lib.IntN.{pos}
 use lib.ListN.{getD}
-use lib.Seq.{take-all}
 use borrow.Author.Needs.{needs}
 use mir.Syntax.{w16}
 use Rattle.laws.specs.Signed.{ok-back}
 use Rattle.filter.specs.Meaning.{mostTaps}
-use Rattle.filter.specs.Window.{LaidSoFar, none-copied, one-copied, copied-at}
+use Rattle.filter.specs.Window.{LaidSoFar, none-laid, one-laid, all-laid}
 use Rattle.filter.proofs.line.laid.Statement.{statement}
 use Rattle.filter.proofs.line.laid.Tie as tie
 
 abbrev Inv-loop : tie.InvT-loop
-Inv-loop line window₀ i₀ window i = LaidSoFar window₀ mostTaps line i window
+Inv-loop line window₀ i₀ window i = LaidSoFar window₀ line i window
 
 abbrev μ-loop : tie.MeasureT-loop
 μ-loop line window₀ i₀ window i = mostTaps - i
 
 loop-holds : tie.Need-loop-holds Inv-loop μ-loop
-loop-holds c = none-copied _ mostTaps _
+loop-holds c = none-laid (c .args .window .now) (c .args .line .now)
 
 mul-s : tie.Need-mul-s Inv-loop μ-loop
 mul-s c = search needs
@@ -47,21 +46,15 @@ loop-again : tie.Need-loop-again Inv-loop μ-loop
 loop-again c =
     let start = c .before .before .before in
     let line = start .args .line .now in
-    let window = start .args .window .now in
     let loop = c .before .before .loop in
-    one-copied window mostTaps line (loop .i) (loop .window) (omega (arith, start .pre .1)) (omega (arith, start .pre .0)) (loop .inv) _ (omega arith)
+    one-laid (start .args .window .now) line (loop .i) (loop .window) (start .pre .1) (start .pre .0) (loop .inv) _ (omega arith)
     (ok-back w16 (getD line (loop .i) (pos 0)) (c .s .given))
 
 returns : tie.Need-returns Inv-loop μ-loop
 returns c =
     let start = c .before .before in
-    let line = start .args .line .now in
-    let window = start .args .window .now in
     let loop = c .before .loop in
-    let there =
-    copied-at window mostTaps line (loop .i) (loop .window) (omega (arith, start .pre .1)) (omega (arith, start .pre .0)) (loop .inv) (start .pre .1)
-    (c .loop-test .left) in
-    rw (take-all mostTaps line (omega (arith, start .pre .0))) at there
+    all-laid (start .args .window .now) (start .args .line .now) (loop .i) (loop .window) (start .pre .1) (start .pre .0) (loop .inv) (c .loop-test .left)
 
 pub laid-spec : {M : Type 1} → statement M
 laid-spec =
