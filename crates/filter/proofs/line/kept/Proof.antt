@@ -1,5 +1,5 @@
--- `line::kept` meets its contract. The loop's invariant: the first i places are those of the line in the window, the rest is as it was. The measure is what is left.
--- Assumes nothing.
+-- `line::kept` meets its contract. The loop's invariant: the first i places are those of the line in the window, the rest is as it was. The measure
+-- is what is left. Assumes nothing.
 use mathlib.Core.Path.{_≡_, refl, sym, _∙_}
 use mathlib.Core.List.{_++_}
 use Prim.Native.Nat.{_+_, _-_, _≤_, _<_}
