@@ -9,14 +9,14 @@ ghost use Rattle.exact.specs.Meaning.{number_of, exact_of};
 use wide::Wide;
 
 // An operand.
-#[derive(Drop)]
+#[derive(Clone, Copy)]
 pub struct Number {
     pub neg: bool,
     pub size: u64,
 }
 
 // A result.
-#[derive(Drop)]
+#[derive(Clone, Copy)]
 pub struct Exact {
     pub neg: bool,
     pub high: u64,

@@ -8,7 +8,7 @@ use grammar::byte::Class;
 use grammar::{byte, refusal};
 
 // A step of the exponent: what it is after the byte, or a refusal.
-#[derive(Drop)]
+#[derive(Clone, Copy)]
 pub enum ExpStep {
     On(u64),
     Refuse(u32),
