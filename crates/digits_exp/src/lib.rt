@@ -1,5 +1,7 @@
 // The second layer (S's `DigitsExp`): some leading zeros, two views, some trailing zeros. A view stands here as two
 // places of the lent text with its digit count. Zeros are counts: no exponent is ever written out.
+#![tactic(auto)]
+
 ghost use Rattle.std.specs.Prelude.{◌^◌, ◌<◌, length};
 ghost use Rattle.digits_exp.specs.Meaning.{IsExp, digits_exp_of};
 ghost use Rattle.digits_exp.specs.Promise.{ViewOf, NewIntFrac, LenExp, SplitAt, SplitFirst};
