@@ -9,7 +9,7 @@ use Rattle.convert.proofs.signed.to_signed.Goals as goal
 pub signed-x-requires : goal.signed-x-requires
 signed-x-requires c =
     let m = met _ _ _ _ c.of_formats-fault.ensures c.if-fault-eq0.true in
-    (m.from_frac, m.frac)
+    (m.from-frac, m.frac)
 
 pub fit-requires : goal.fit-requires
 fit-requires c = (met _ _ _ _ c.of_formats-fault.ensures c.if-fault-eq0.true).width
