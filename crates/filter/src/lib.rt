@@ -1,4 +1,6 @@
 // The filter (01, module 7). Taps and samples are I1F15 raws; the newest sample stands first.
+#![tactic(auto)]
+
 ghost use Rattle.filter.specs.Meaning.{state_of};
 ghost use Rattle.filter.specs.Promise.{Silent, Steps, Runs};
 

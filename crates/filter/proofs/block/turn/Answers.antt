@@ -6,66 +6,32 @@ use native.Mathlib.Omega.{arith}
 use lib.IntN.{ℤ}
 use lib.ListN.{length, take, drop, set, length-set, length-drop}
 use lib.Seq.{take_all}
-use borrow.Author.Rules.{rules}
 use mir.Syntax.{w16}
 use mir.Val.{to_z, of_z}
 use mir.Facts.{to_z-of_z}
 use Rattle.filter.specs.Sum.{held_of}
 use Rattle.filter.specs.Window.{level-take}
-use Rattle.filter.proofs.block.turn.Statement.{statement}
-use Rattle.filter.proofs.block.turn.Tie as tie
+use Rattle.filter.proofs.block.turn.Goals as goal
 
 -- from a place to the end
 to_end : (l : List ℤ) (at : ℕ) → take (length l - at) (drop at l) ≡ drop at l
 to_end l at = take_all (length l - at) (drop at l) (simp length-drop (omega arith))
 
-mul-x : tie.Need-overflow-mul-x
-mul-x c = search rules
+pub slice_bounds-output-count : goal.slice_bounds-output-count
+slice_bounds-output-count c = simp length-set (omega (arith, c.requires.1.0, c.requires.1.1))
 
-slice-set-from-x : tie.Need-slice-set-from-x
-slice-set-from-x c = search rules
-
-mul-output : tie.Need-overflow-mul-output
-mul-output c = search rules
-
-sub-output : tie.Need-overflow-sub-output
-sub-output c = simp length-set (omega (arith, c.requires.1.0, c.requires.1.1))
-
-part-output-start : tie.Need-slice-bounds-output-start
-part-output-start c = simp length-set (omega (arith, c.before.requires.1.0, c.before.requires.1.1))
-
-part-output-end : tie.Need-slice-bounds-output-end
-part-output-end c = search rules
-
-output-requires : tie.Need-output-requires
-output-requires c κs =
-    let start = c.before.before in
+pub output-requires : goal.output-requires
+output-requires c =
+    let start = c in
     let window = set start.args.window.now start.args.at (to_z w16 (of_z w16 start.args.x)) in
     let long : length (drop start.args.at window) ≡ length start.args.window.now - start.args.at = simp (length-drop, length-set) refl in
     (start.requires.0, rw (to_end window start.args.at, long) (omega (arith, start.requires.0, start.requires.1.0, start.requires.1.1)))
 
-same_length : tie.Need-same-length
-same_length c = search rules
-
-returns : tie.Need-returns
+pub returns : goal.returns
 returns c =
-    let start = c.before.before.before in
+    let start = c in
     let window = set start.args.window.now start.args.at (to_z w16 (of_z w16 start.args.x)) in
     let sum = rw (to_end window start.args.at) at c.output.ensures in (
       rw (to_z-of_z {w = w16} start.ranges.x),
       sum ∙ ap held_of (level-take start.args.taps.now (drop start.args.at window) start.requires.0),
     )
-
-pub turn_spec : {M : Type 1} → statement M
-turn_spec =
-    tie.close
-    (tie.spec
-    mul-x
-    slice-set-from-x
-    mul-output
-    sub-output
-    part-output-start
-    part-output-end
-    output-requires
-    same_length
-    returns)
