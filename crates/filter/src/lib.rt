@@ -68,9 +68,8 @@ pub fn run(
     outputs: &mut [i16],
     clips: &mut [u8],
 ) -> UnsignedAnswer
-    ensures { Runs taps.now (state_of state.old) samples.now
-        outputs.old clips.old result (state_of state.new) outputs.new
-        clips.new }
+    ensures { Runs taps.now (state_of state.old) samples.now outputs.old clips.old result
+        (state_of state.new) outputs.new clips.new }
 {
     let fault = fault::block(taps.len(), samples.len(), outputs.len(), clips.len());
     if fault != 0 {

@@ -28,7 +28,12 @@ through-count-requires c =
     let fault = c.block-fault in
     let left = c.if-fault-ne0.false in
     let fit = block_fit (length a.taps.now) (length a.samples.now) (length a.outputs.now) (length a.clips.now) (sym fault.ensures ∙ left) in
-    (fit.few, (c.whole-line.ensures.1, (fit.outputs-fit, fit.clips-fit)))
+    record {
+      few_taps = fit.few;
+      line_len = c.whole-line.ensures.1;
+      outputs_len = fit.outputs-fit;
+      clips_len = fit.clips-fit;
+    }
 
 pub returns : goal.returns
 unfolding ran_of

@@ -18,20 +18,23 @@ to_end : (l : List ℤ) (at : ℕ) → take (length l - at) (drop at l) ≡ drop
 to_end l at = take_all (length l - at) (drop at l) (simp length-drop (omega arith))
 
 pub slice_bounds-output-count : goal.slice_bounds-output-count
-slice_bounds-output-count c = simp length-set (omega (arith, c.requires.1.0, c.requires.1.1))
+slice_bounds-output-count c = simp length-set (omega (arith, c.requires.window_len, c.requires.at_in_range))
 
 pub output-requires : goal.output-requires
 output-requires c =
-    let start = c in
-    let window = set start.args.window.now start.args.at (to_z w16 (of_z w16 start.args.x)) in
-    let long : length (drop start.args.at window) ≡ length start.args.window.now - start.args.at = simp (length-drop, length-set) refl in
-    (start.requires.0, rw (to_end window start.args.at, long) (omega (arith, start.requires.0, start.requires.1.0, start.requires.1.1)))
+    let window = set c.args.window.now c.args.at (to_z w16 (of_z w16 c.args.x)) in
+    let long : length (drop c.args.at window) ≡ length c.args.window.now - c.args.at = simp (length-drop, length-set) refl in
+    record {
+      few_taps = c.requires.few_taps;
+      enough_samples = rw (to_end window c.args.at, long)
+          (omega (arith, c.requires.few_taps, c.requires.window_len, c.requires.at_in_range));
+    }
 
 pub returns : goal.returns
 returns c =
-    let start = c in
-    let window = set start.args.window.now start.args.at (to_z w16 (of_z w16 start.args.x)) in
-    let sum = rw (to_end window start.args.at) at c.output.ensures in (
-      rw (to_z-of_z {w = w16} start.ranges.x),
-      sum ∙ ap held_of (level-take start.args.taps.now (drop start.args.at window) start.requires.0),
-    )
+    let window = set c.args.window.now c.args.at (to_z w16 (of_z w16 c.args.x)) in
+    let sum = rw (to_end window c.args.at) at c.output.ensures in
+    record {
+      written = rw (to_z-of_z {w = w16} c.ranges.x);
+      output = sum ∙ ap held_of (level-take c.args.taps.now (drop c.args.at window) c.requires.few_taps);
+    }

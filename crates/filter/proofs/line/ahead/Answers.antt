@@ -10,10 +10,9 @@ use Rattle.filter.proofs.line.ahead.Goals as goal
 use Rattle.filter.proofs.line.ahead.Goals.{After-kept}
 
 -- the line that is kept has all its places
-kept-long : (c : After-kept) → length c.kept.new.1.1.0 ≡ most_taps
+kept-long : (c : After-kept) → length c.kept.new.line ≡ most_taps
 kept-long c =
-    let start = c in
-    ap length c.kept.ensures ∙ line-long start.args.window.now start.args.at start.requires.0 start.requires.1.0
+    ap length c.kept.ensures ∙ line-long c.args.window.now c.args.at c.requires.window_len c.requires.at_in_range
 
 pub returns-then-at-ne0 : goal.returns-then-at-ne0
 returns-then-at-ne0 c =
@@ -21,12 +20,19 @@ returns-then-at-ne0 c =
     let pre = c.requires in
     let stay : a.at - 1 + 1 ≡ a.at = omega arith in
     let line = ap (λ (k : ℕ). take most_taps (drop k a.window.now)) stay in
-    (omega (arith, pre.1.0), (record { long = pre.0; here = line }, pre.1.1))
+    record {
+      place = omega (arith, pre.at_in_range);
+      line_there = record { long = pre.window_len; here = line };
+      line_len_after = pre.line_len;
+    }
 
 pub laid-requires : goal.laid-requires
-laid-requires c = (kept-long c.before, c.requires.0)
+laid-requires c = record { line_len = kept-long c.before; window_len = c.requires.window_len }
 
 pub returns : goal.returns
 returns c =
-    let kept = c in
-    (omega arith, (rw kept.kept.ensures at c.laid.ensures, kept-long kept.before.before))
+    record {
+      place = omega arith;
+      line_there = rw c.kept.ensures at c.laid.ensures;
+      line_len_after = kept-long c.before.before;
+    }

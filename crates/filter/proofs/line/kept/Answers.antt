@@ -1,11 +1,10 @@
 -- `line::kept` meets its contract. The loop's invariant: the first i places are those of the line in the window, the rest is as it was. The measure
 -- is what is left. Assumes nothing.
 use mathlib.Core.Path.{◌≡◌, refl, sym, ◌∙◌}
-use mathlib.Core.List.{◌++◌}
-use Prim.Native.Nat.{◌+◌, ◌-◌, ◌≤◌, ◌<◌}
+use Prim.Native.Nat.{◌+◌, ◌<◌}
 use native.Mathlib.Omega.{arith}
 use lib.IntN.{pos}
-use lib.ListN.{length, take, drop, get_or, length-drop}
+use lib.ListN.{length, drop, get_or, length-drop}
 use lib.Seq.{get_or-drop}
 use mir.Syntax.{w16}
 use Rattle.laws.specs.Signed.{ok-back}
@@ -18,19 +17,17 @@ loop-i-init c = (omega arith, refl)
 
 pub loop-i-preserved : goal.loop-i-preserved
 loop-i-preserved c =
-    let start = c in
-    let a = start.args in
+    let a = c.args in
     let loop = c.loop-i in
     let s = get_or a.window.now (a.at + loop.i) (pos 0) in
-    let here = ok-back w16 s c.s-1.given ∙ sym (get_or-drop a.at a.window.now loop.i (pos 0)) in
-    let enough : loop.i < length (drop a.at a.window.now) = simp length-drop (omega (arith, start.requires.0, start.requires.1.0)) in (
+    let here = ok-back w16 s (omega arith) ∙ sym (get_or-drop a.at a.window.now loop.i (pos 0)) in
+    let enough : loop.i < length (drop a.at a.window.now) = simp length-drop (omega (arith, c.requires.window_len, c.requires.at_in_range)) in (
       omega arith,
-      new-here a.line.now (drop a.at a.window.now) loop.line (pos 0) loop.i (omega (arith, start.requires.1.1)) enough loop.invariant.1 _ here,
+      new-here a.line.now (drop a.at a.window.now) loop.line (pos 0) loop.i (omega (arith, c.requires.line_len)) enough loop.invariant.1 _ here,
     )
 
 pub returns : goal.returns
 returns c =
-    let start = c in
     let loop = c.loop-i in
     let end : loop.i ≡ most_taps = omega (arith, loop.invariant.0) in
-    rw end at (all_new start.args.line.now _ loop.line loop.i (omega (arith, start.requires.1.1)) loop.invariant.1)
+    rw end at (all_new c.args.line.now _ loop.line loop.i (omega (arith, c.requires.line_len)) loop.invariant.1)

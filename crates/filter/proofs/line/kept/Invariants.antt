@@ -1,16 +1,10 @@
 -- `line::kept` meets its contract. The loop's invariant: the first i places are those of the line in the window, the rest is as it was. The measure
 -- is what is left. Assumes nothing.
-use mathlib.Core.Path.{◌≡◌, refl, sym, ◌∙◌}
+use mathlib.Core.Path.{◌≡◌}
 use mathlib.Core.List.{◌++◌}
-use Prim.Native.Nat.{◌+◌, ◌-◌, ◌≤◌, ◌<◌}
-use native.Mathlib.Omega.{arith}
-use lib.IntN.{pos}
-use lib.ListN.{length, take, drop, get_or, length-drop}
-use lib.Seq.{get_or-drop}
-use mir.Syntax.{w16}
-use Rattle.laws.specs.Signed.{ok-back}
+use Prim.Native.Nat.{◌-◌, ◌≤◌}
+use lib.ListN.{take, drop}
 use Rattle.filter.specs.Meaning.{most_taps}
-use Rattle.filter.specs.Line.{new-here, all_new}
 use Rattle.filter.proofs.line.kept.Given as goal
 
 abbrev pub invariant-loop-i : goal.invariant-loop-i

@@ -1,13 +1,11 @@
 -- `line::laid` meets its contract. The loop's invariant: the first i samples of the line are copied behind its room. The measure is what is left.
 -- Assumes nothing.
-use Prim.Native.Nat.{◌-◌}
 use native.Mathlib.Omega.{arith}
 use lib.IntN.{pos}
 use lib.ListN.{get_or}
 use mir.Syntax.{w16}
 use Rattle.laws.specs.Signed.{ok-back}
-use Rattle.filter.specs.Meaning.{most_taps}
-use Rattle.filter.specs.Window.{LaidSoFar, none-laid, one-laid, all_laid}
+use Rattle.filter.specs.Window.{none-laid, one-laid, all_laid}
 use Rattle.filter.proofs.line.laid.Goals as goal
 
 pub loop-i-init : goal.loop-i-init
@@ -15,14 +13,12 @@ loop-i-init c = none-laid c.args.window.now c.args.line.now
 
 pub loop-i-preserved : goal.loop-i-preserved
 loop-i-preserved c =
-    let start = c in
-    let line = start.args.line.now in
+    let line = c.args.line.now in
     let loop = c.loop-i in
-    one-laid start.args.window.now line loop.i loop.window start.requires.1 start.requires.0 loop.invariant _ (omega arith)
-    (ok-back w16 (get_or line loop.i (pos 0)) c.s-1.given)
+    one-laid c.args.window.now line loop.i loop.window c.requires.window_len c.requires.line_len loop.invariant _ (omega arith)
+    (ok-back w16 (get_or line loop.i (pos 0)) (omega arith))
 
 pub returns : goal.returns
 returns c =
-    let start = c in
     let loop = c.loop-i in
-    all_laid start.args.window.now start.args.line.now loop.i loop.window start.requires.1 start.requires.0 loop.invariant c.loop-i-test.false
+    all_laid c.args.window.now c.args.line.now loop.i loop.window c.requires.window_len c.requires.line_len loop.invariant c.loop-i-test.false

@@ -1,12 +1,11 @@
 -- `line::push` meets its contract. The loop's invariant: the first i places are those of x and the old line behind it, the rest is the old line's,
 -- and the sample in hand is the next. The measure is what is left. Assumes nothing.
 use mathlib.Core.Path.{◌≡◌, refl, ◌∙◌}
-use mathlib.Core.List.{◌∷◌, ◌++◌}
-use Prim.Native.Nat.{◌-◌, ◌≤◌}
+use mathlib.Core.List.{◌∷◌}
 use native.Mathlib.Numerals.{add-one}
 use native.Mathlib.Omega.{arith}
 use lib.IntN.{pos}
-use lib.ListN.{length, take, drop, get_or}
+use lib.ListN.{get_or}
 use mir.Syntax.{w16}
 use mir.Val.{to_z, of_z}
 use mir.Facts.{to_z-of_z}
@@ -20,18 +19,17 @@ loop-i-init c = (omega arith, (c.requires, (refl, refl)))
 
 pub loop-i-preserved : goal.loop-i-preserved
 loop-i-preserved c =
-    let start = c in
     let loop = c.loop-i in
     let inv = loop.invariant in
-    let old = start.args.line.now in
-    let new = to_z w16 (of_z w16 start.args.x) ∷ old in
+    let old = c.args.line.now in
+    let new = to_z w16 (of_z w16 c.args.x) ∷ old in
     let here = old-here old new loop.line (pos 0) loop.i (omega arith) (omega arith) inv.1.1.0 in (
       omega arith,
       (
         inv.1.0,
         (
           new-here old new loop.line (pos 0) loop.i (omega arith) (omega arith) inv.1.1.0 _ inv.1.1.1,
-          rw (add-one loop.i) (ok-back w16 (get_or loop.line loop.i (pos 0)) c.here-1.given ∙ here),
+          rw (add-one loop.i) (ok-back w16 (get_or loop.line loop.i (pos 0)) (omega arith) ∙ here),
         ),
       ),
     )
@@ -39,7 +37,6 @@ loop-i-preserved c =
 pub returns : goal.returns
 unfolding next
 returns c =
-    let start = c in
     let loop = c.loop-i in
     let end : loop.i ≡ most_taps = omega arith in
-    rw (to_z-of_z {w = w16} start.ranges.x, end) at (all_new start.args.line.now _ loop.line loop.i (omega arith) loop.invariant.1.1.0)
+    rw (to_z-of_z {w = w16} c.ranges.x, end) at (all_new c.args.line.now _ loop.line loop.i (omega arith) loop.invariant.1.1.0)

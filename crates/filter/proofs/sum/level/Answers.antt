@@ -9,10 +9,10 @@ use Rattle.filter.proofs.sum.level.Goals as goal
 pub round-requires : goal.round-requires
 round-requires c =
     let sum = c.dot in
-    rw (ok-back w64 sum.result sum.type_inv) sum.ensures.1
+    rw (ok-back w64 sum.result sum.type_inv) sum.ensures.bound
 
 pub returns : goal.returns
 unfolding level_of
 returns c =
     let sum = c.dot in
-    ok-back w64 c.round.result c.round.type_inv ∙ (rw (ok-back w64 sum.result sum.type_inv, sum.ensures.0) at c.round.ensures)
+    ok-back w64 c.round.result c.round.type_inv ∙ (rw (ok-back w64 sum.result sum.type_inv, sum.ensures.value) at c.round.ensures)

@@ -2,7 +2,7 @@
 -- The machine reads each number back from its bits, and each time it is the same number, since it fits. Assumes nothing.
 use native.Mathlib.Omega.{arith}
 use lib.IntN.{ℤ, ◌*ℤ◌}
-use mir.Syntax.{w16, w32}
+use mir.Syntax.{w16, w32, w64}
 use mir.Val.{SFits}
 use mir.Facts.{to_z-of_z, sfits_widen}
 use Rattle.laws.specs.Bound.{abs-sfits, sfits-mul}
@@ -36,4 +36,4 @@ returns c =
     let f = c.ranges.tap in
     let g = c.ranges.sample in
     rw (to_z-of_z {w = w16} f, to_z-of_z {w = w16} g, to_z-of_z {w = w32} (sfits_widen tt f), to_z-of_z {w = w32} (sfits_widen tt g), to_z-of_z {w = w32} (fits f g))
-    (to_z-of_z (sfits_widen tt (fits f g)))
+    (to_z-of_z {w = w64} (sfits_widen tt (fits f g)))
