@@ -15,13 +15,13 @@ use format::{SignedAnswer, UnsignedAnswer};
 pub const TAPS: usize = 64;
 
 // The last samples, newest first.
-#[derive(Drop)]
+#[derive(Clone, Copy)]
 pub struct State {
     pub samples: [i16; TAPS],
 }
 
 // One step: the output with its clip flag, or the refusal; and the state after it.
-#[derive(Drop)]
+#[derive(Clone, Copy)]
 pub struct Stepped {
     pub answer: SignedAnswer,
     pub state: State,

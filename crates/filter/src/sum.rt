@@ -4,7 +4,7 @@ ghost use Rattle.filter.specs.Meaning.{most_taps, sum_of, rounded, level_of};
 ghost use Rattle.filter.specs.Sum.{held_of};
 
 // An output, and whether holding changed it.
-#[derive(Drop)]
+#[derive(Clone, Copy)]
 pub(crate) struct Held {
     pub value: i16,
     pub clipped: bool,

@@ -23,7 +23,7 @@ pub verdict-requires : goal.verdict-requires
 verdict-requires c =
     let a = c.args in
     let fit = head-fit (length a.taps.now) (length a.witness.now) (sym c.headroom-fault.ensures ∙ c.if-fault-ne0.false) in
-    (fit.1, sym fit.0)
+    record { few_taps = fit.1; witness_len = sym fit.0 }
 
 pub returns : goal.returns
 unfolding headroom_of

@@ -1,17 +1,13 @@
 -- `peak::drive` meets its contract. The loop's invariant: the first i places hold the driven samples of the first i taps. The measure is what is left.
 -- Assumes nothing.
 use mathlib.Core.Path.{◌≡◌, refl, ◌∙◌}
-use mathlib.Core.List.{map}
-use Prim.Native.Nat.{◌-◌, ◌≤◌}
 use native.Mathlib.Omega.{arith}
 use lib.IntN.{pos}
-use lib.ListN.{length, take, get_or, length-set}
+use lib.ListN.{length, get_or, length-set}
 use lib.Seq.{take-length}
 use mir.Syntax.{w16}
 use Rattle.laws.specs.Lists.{map-step}
 use Rattle.laws.specs.Signed.{ok-back}
-use Rattle.filter.specs.Meaning.{most_taps}
-use Rattle.headroom.specs.Meaning.{driven_of}
 use Rattle.headroom.proofs.peak.drive.Goals as goal
 
 pub loop-i-init : goal.loop-i-init
@@ -22,8 +18,7 @@ loop-i-preserved c =
     let taps = c.args.taps.now in
     let i = c.loop-i.i in
     let inv = c.loop-i.invariant in
-    let tap = c.driven-arg-1.given in
-    let told = rw (ok-back w16 (get_or taps i (pos 0)) tap) at c.driven-s.ensures in (
+    let told = rw (ok-back w16 (get_or taps i (pos 0)) (omega arith)) at c.driven-s.ensures in (
       omega arith,
       (
         simp length-set inv.1.0,

@@ -1,15 +1,9 @@
 -- `peak::drive` meets its contract. The loop's invariant: the first i places hold the driven samples of the first i taps. The measure is what is left.
 -- Assumes nothing.
-use mathlib.Core.Path.{◌≡◌, refl, ◌∙◌}
+use mathlib.Core.Path.{◌≡◌}
 use mathlib.Core.List.{map}
 use Prim.Native.Nat.{◌-◌, ◌≤◌}
-use native.Mathlib.Omega.{arith}
-use lib.IntN.{pos}
-use lib.ListN.{length, take, get_or, length-set}
-use lib.Seq.{take-length}
-use mir.Syntax.{w16}
-use Rattle.laws.specs.Lists.{map-step}
-use Rattle.laws.specs.Signed.{ok-back}
+use lib.ListN.{length, take}
 use Rattle.filter.specs.Meaning.{most_taps}
 use Rattle.headroom.specs.Meaning.{driven_of}
 use Rattle.headroom.proofs.peak.drive.Given as goal

@@ -20,10 +20,10 @@ low t e h = rw e h
 
 pub returns-in-High : goal.returns-in-High
 returns-in-High c =
-    let told = rw (to_z-of_z {w = w16} c.ranges.tap) at c.by_sign_lem.ensures in
-    ok-back w16 c.by_sign_lem.result c.by_sign_lem.type_inv ∙ high c.args.tap c.enum_told-1.given.1 told
+    let told = rw (to_z-of_z {w = w16} c.ranges.tap) at c.by_sign.ensures in
+    ok-back w16 c.by_sign.result c.by_sign.type_inv ∙ high c.args.tap c.in-High.is told
 
 pub returns-in-Low : goal.returns-in-Low
 returns-in-Low c =
     let told = rw (to_z-of_z {w = w16} c.ranges.tap) at c.by_sign-in-Low.ensures in
-    ok-back w16 c.by_sign-in-Low.result c.by_sign-in-Low.type_inv ∙ low c.args.tap c.enum_told-in-Low-1.given.1 told
+    ok-back w16 c.by_sign-in-Low.result c.by_sign-in-Low.type_inv ∙ low c.args.tap c.in-Low.is told

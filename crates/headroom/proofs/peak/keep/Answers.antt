@@ -1,11 +1,10 @@
 -- `peak::keep` meets its contract. The loop's invariant: the first i places hold the first i samples of the line. The measure is what is left.
 -- Assumes nothing.
 use mathlib.Core.Path.{◌≡◌, refl}
-use Prim.Native.Nat.{◌-◌, ◌≤◌}
 use native.Mathlib.Numerals.{add-one}
 use native.Mathlib.Omega.{arith}
 use lib.IntN.{pos}
-use lib.ListN.{length, take, get_or, length-set}
+use lib.ListN.{length, get_or, length-set}
 use lib.Seq.{take-suc, take-suc-set, take_all}
 use mir.Syntax.{w16}
 use Rattle.laws.specs.Signed.{ok-back}
@@ -27,8 +26,7 @@ loop-i-preserved c =
           take-suc-set c.loop-i.witness i _ (omega arith),
           take-suc line i (pos 0) (omega arith),
           inv.1.1,
-          ok-back w16
-              (get_or line i (pos 0)) c.s-1.given,
+          ok-back w16 (get_or line i (pos 0)) (omega arith),
         ),
       ),
     )

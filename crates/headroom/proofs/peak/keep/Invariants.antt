@@ -1,14 +1,8 @@
 -- `peak::keep` meets its contract. The loop's invariant: the first i places hold the first i samples of the line. The measure is what is left.
 -- Assumes nothing.
-use mathlib.Core.Path.{◌≡◌, refl}
+use mathlib.Core.Path.{◌≡◌}
 use Prim.Native.Nat.{◌-◌, ◌≤◌}
-use native.Mathlib.Numerals.{add-one}
-use native.Mathlib.Omega.{arith}
-use lib.IntN.{pos}
-use lib.ListN.{length, take, get_or, length-set}
-use lib.Seq.{take-suc, take-suc-set, take_all}
-use mir.Syntax.{w16}
-use Rattle.laws.specs.Signed.{ok-back}
+use lib.ListN.{length, take}
 use Rattle.headroom.proofs.peak.keep.Given as goal
 
 abbrev pub invariant-loop-i : goal.invariant-loop-i
