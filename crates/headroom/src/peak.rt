@@ -74,12 +74,14 @@ pub(crate) fn verdict(taps: &[i16], witness: &mut [i16]) -> u64
         × (witness.new ≡ witness_of taps.now witness.old) }
 {
     let high = drive(Way::High, taps);
-    if 32767 < sum::level(taps, &high[..]) {
+    let clips_high = 32767 < sum::level(taps, &high[..]);
+    if clips_high {
         keep(&high, witness);
         return 1;
     }
     let low = drive(Way::Low, taps);
-    if sum::level(taps, &low[..]) < -32768 {
+    let clips_low = sum::level(taps, &low[..]) < -32768;
+    if clips_low {
         keep(&low, witness);
         return 2;
     }

@@ -30,32 +30,32 @@ module _ (taps line : List ℤ) (y : ℤ) (t : Bool) (fits : mag y < 2 ^ 63) (le
 pub slice_bounds-level-end : goal.slice_bounds-level-end
 slice_bounds-level-end c = sym c.drive-high.ensures.0
 
-pub returns-then-level-gt32767 : goal.returns-then-level-gt32767
-returns-then-level-gt32767 c =
+pub returns-then-clips_high : goal.returns-then-clips_high
+returns-then-clips_high c =
     let taps = c.args.taps.now in
     let drives = c.drive-high.ensures.1 in
     let kept = rw c.requires.witness_len at c.keep.ensures in
     verdict-high taps c.args.witness.now c.keep.new.witness
-    (high taps _ _ true c.level.type_inv c.level.ensures drives c.if-level-gt32767.true)
+    (high taps _ _ true c.level-clips_high.type_inv c.level-clips_high.ensures drives c.if-clips_high.true)
     (kept ∙ drives)
 
 pub slice_bounds-level-end-2 : goal.slice_bounds-level-end-2
 slice_bounds-level-end-2 c = sym c.drive-low.ensures.0
 
-pub returns-then-level-ltminus32768 : goal.returns-then-level-ltminus32768
-returns-then-level-ltminus32768 c =
+pub returns-then-clips_low : goal.returns-then-clips_low
+returns-then-clips_low c =
     let taps = c.args.taps.now in
     let drives = c.drive-low.ensures.1 in
-    let kept = rw c.requires.witness_len at c.keep-then-level-ltminus32768.ensures in
-    verdict-low taps c.args.witness.now c.keep-then-level-ltminus32768.new.witness
-    (high taps _ _ false c.level.type_inv c.level.ensures c.drive-high.ensures.1 c.if-level-gt32767.false)
-    (low taps _ _ true c.level-2.type_inv c.level-2.ensures drives c.if-level-ltminus32768.true)
+    let kept = rw c.requires.witness_len at c.keep-then-clips_low.ensures in
+    verdict-low taps c.args.witness.now c.keep-then-clips_low.new.witness
+    (high taps _ _ false c.level-clips_high.type_inv c.level-clips_high.ensures c.drive-high.ensures.1 c.if-clips_high.false)
+    (low taps _ _ true c.level-clips_low.type_inv c.level-clips_low.ensures drives c.if-clips_low.true)
     (kept ∙ drives)
 
 pub returns : goal.returns
 returns c =
     let taps = c.args.taps.now in
     verdict-none taps c.args.witness.now c.args.witness.now
-    (high taps _ _ false c.level.type_inv c.level.ensures c.drive-high.ensures.1 c.if-level-gt32767.false)
-    (low taps _ _ false c.level-2.type_inv c.level-2.ensures c.drive-low.ensures.1 c.if-level-ltminus32768.false)
+    (high taps _ _ false c.level-clips_high.type_inv c.level-clips_high.ensures c.drive-high.ensures.1 c.if-clips_high.false)
+    (low taps _ _ false c.level-clips_low.type_inv c.level-clips_low.ensures c.drive-low.ensures.1 c.if-clips_low.false)
     refl
