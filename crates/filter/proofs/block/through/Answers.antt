@@ -17,7 +17,8 @@ loop-i-init c =
     let a = c.args in
     let laid = c.laid.ensures in
     let fit = c.requires in
-    let none = start a.taps.now a.line.now a.samples.now a.outputs.now a.clips.now fit.line_len fit.outputs_len fit.clips_len in
+    let none = start a.taps.now a.line.now a.samples.now a.outputs.now a.clips.now
+    fit.line_len fit.outputs_len fit.clips_len in
     (omega arith, (laid.long, (fit.line_len, rw laid.here none)))
 
 pub loop-i-preserved : goal.loop-i-preserved

@@ -21,9 +21,12 @@ loop-i-preserved c =
     let loop = c.loop-i in
     let s = get_or a.window.now (a.at + loop.i) (pos 0) in
     let here = ok-back w16 s (omega arith) ∙ sym (get_or-drop a.at a.window.now loop.i (pos 0)) in
-    let enough : loop.i < length (drop a.at a.window.now) = simp length-drop (omega (arith, c.requires.window_len, c.requires.at_in_range)) in (
+    let pre = c.requires in
+    let enough : loop.i < length (drop a.at a.window.now)
+    = simp length-drop (omega (arith, pre.window_len, pre.at_in_range)) in (
       omega arith,
-      new-here a.line.now (drop a.at a.window.now) loop.line (pos 0) loop.i (omega (arith, c.requires.line_len)) enough loop.invariant.1 _ here,
+      new-here a.line.now (drop a.at a.window.now) loop.line (pos 0) loop.i (omega (arith, pre.line_len)) enough
+          loop.invariant.1 _ here,
     )
 
 pub returns : goal.returns

@@ -15,10 +15,13 @@ pub loop-i-preserved : goal.loop-i-preserved
 loop-i-preserved c =
     let line = c.args.line.now in
     let loop = c.loop-i in
-    one-laid c.args.window.now line loop.i loop.window c.requires.window_len c.requires.line_len loop.invariant _ (omega arith)
+    let pre = c.requires in
+    one-laid c.args.window.now line loop.i loop.window pre.window_len pre.line_len loop.invariant _ (omega arith)
     (ok-back w16 (get_or line loop.i (pos 0)) (omega arith))
 
 pub returns : goal.returns
 returns c =
     let loop = c.loop-i in
-    all_laid c.args.window.now c.args.line.now loop.i loop.window c.requires.window_len c.requires.line_len loop.invariant c.loop-i-test.false
+    let pre = c.requires in
+    all_laid c.args.window.now c.args.line.now loop.i loop.window pre.window_len pre.line_len loop.invariant
+    c.loop-i-test.false
