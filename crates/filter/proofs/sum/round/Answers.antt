@@ -5,23 +5,19 @@ use mir.Syntax.{w64}
 use mir.Facts.{to_z-of_z}
 use Rattle.laws.specs.Signed.{word-pos}
 use Rattle.filter.specs.Added.{odd, whole-odd, half-fits, raised-fits, lowered-fits, lowered_is}
-use Rattle.filter.proofs.sum.round.Statement.{statement}
-use Rattle.filter.proofs.sum.round.Tie as tie
+use Rattle.filter.proofs.sum.round.Goals as goal
 
-add-result : tie.Need-overflow-add-result
-add-result c = rw (to_z-of_z {w = w64} c.ranges.p) (half-fits c.args.p c.requires)
+pub overflow_add-result : goal.overflow_add-result
+overflow_add-result c = rw (to_z-of_z {w = w64} c.ranges.p) (half-fits c.args.p c.requires)
 
-add-result-2 : tie.Need-overflow-add-result-2
-add-result-2 c =
+pub overflow_add-result-2 : goal.overflow_add-result-2
+overflow_add-result-2 c =
     let p = c.args.p in
     rw (to_z-of_z {w = w64} c.ranges.p, to_z-of_z {w = w64} (half-fits p c.requires), whole-odd p c.requires, word-pos (odd p) (omega arith))
     (raised-fits p c.requires)
 
-returns : tie.Need-returns
+pub returns : goal.returns
 returns c =
     let p = c.args.p in
     rw (to_z-of_z {w = w64} c.ranges.p, to_z-of_z {w = w64} (half-fits p c.requires), whole-odd p c.requires, word-pos (odd p) (omega arith))
     (rw (to_z-of_z {w = w64} (raised-fits p c.requires), to_z-of_z {w = w64} (lowered-fits p c.requires)) (lowered_is p))
-
-pub round-spec : {M : Type 1} → statement M
-round-spec = tie.close (tie.spec add-result add-result-2 returns)
