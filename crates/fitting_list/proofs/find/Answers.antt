@@ -78,8 +78,8 @@ keep-requires-clause-values_in_bounds c =
     let a = c.args in
     let k = known a.file.now a.room a.taps.now c.check-checked.ensures c.in-Done.is in
     let same =
-        done-count a.room a.room a.room a.file.now zero-places signed-zeros zero-places a.taps.now k c.store.ensures
-        c.judge-judged.ensures c.in-Done-judged.is in
+    done-count a.room a.room a.room a.file.now zero-places signed-zeros zero-places a.taps.now k c.store.ensures
+    c.judge-judged.ensures c.in-Done-judged.is in
     omega (arith, same, ap length c.store.ensures.raws-are, over-long raw_at (values_of a.file.now) signed-zeros)
 
 pub keep-requires-clause-values_in_bounds_2 : goal.keep-requires-clause-values_in_bounds_2
@@ -87,8 +87,8 @@ keep-requires-clause-values_in_bounds_2 c =
     let a = c.args in
     let k = known a.file.now a.room a.taps.now c.check-checked.ensures c.in-Done.is in
     let same =
-        done-count a.room a.room a.room a.file.now zero-places signed-zeros zero-places a.taps.now k c.store.ensures
-        c.judge-judged.ensures c.in-Done-judged.is in
+    done-count a.room a.room a.room a.file.now zero-places signed-zeros zero-places a.taps.now k c.store.ensures
+    c.judge-judged.ensures c.in-Done-judged.is in
     omega (arith, same, k.room.taps-room)
 
 pub returns : goal.returns
