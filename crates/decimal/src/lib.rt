@@ -20,7 +20,7 @@ const POINT: usize = 21;
 const PLACES: usize = 87;
 
 // Where a text stands in its layout.
-#[derive(Drop)]
+#[derive(Clone, Copy)]
 struct Span {
     start: usize,
     end: usize,

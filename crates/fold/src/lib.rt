@@ -9,14 +9,14 @@ use wide::Wide;
 
 pub mod body;
 
-#[derive(Drop)]
+#[derive(Clone, Copy)]
 pub struct Folded {
     pub low: u64,
     pub over: bool,
 }
 
 // How one number compares with another.
-#[derive(Drop)]
+#[derive(Clone, Copy)]
 pub enum Order {
     Less,
     Same,

@@ -6,7 +6,7 @@
 use scan::{Found, Parsed};
 
 #[repr(C)]
-#[derive(Drop)]
+#[derive(Clone, Copy)]
 pub struct Probe {
     pub number: u32,
     pub radix: u32,

@@ -7,7 +7,7 @@ ghost use Rattle.run.specs.Run.{run_at};
 use grammar::byte;
 
 // A run of digits in the text, and how many digits it has (`_` do not count).
-#[derive(Drop)]
+#[derive(Clone, Copy)]
 pub struct Run {
     pub from: usize,
     pub to: usize,

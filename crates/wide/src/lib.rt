@@ -9,14 +9,14 @@ ghost use Rattle.wide.specs.Promise.{Product, Sum, Difference, Less, Divided, Sh
 mod divide;
 
 // A number of up to 128 bits.
-#[derive(Drop)]
+#[derive(Clone, Copy)]
 pub struct Wide {
     pub high: u64,
     pub low: u64,
 }
 
 // A quotient and what the division leaves.
-#[derive(Drop)]
+#[derive(Clone, Copy)]
 pub struct Quotient {
     pub quotient: Wide,
     pub rest: u64,
