@@ -1,5 +1,7 @@
 // A run of digits in a text: from its first digit to the byte in front of
 // which it ends. An inner function of the scanner.
+#![tactic(auto)]
+
 ghost use Rattle.std.specs.Prelude.{◌≡◌, ◌+◌, ◌≤◌, length, drop};
 ghost use Rattle.grammar.specs.Run.{in_run, run_more};
 ghost use Rattle.run.specs.Run.{run_at};
