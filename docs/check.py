@@ -18,11 +18,12 @@ ROOT = Path(__file__).resolve().parent.parent
 CRATES = ROOT / "crates"
 INDEX = (ROOT / "docs/PROMISES.md").read_text()
 PAGES = {page.stem: page.read_text() for page in sorted((ROOT / "docs/promises").glob("*.md"))}
+CLAUSE = re.compile(r"^ +ensures(?: \w+)? \{(.*?)\}\s*(?=^ +(?:ensures|requires|decreases)\b|\Z)", re.M | re.S)
 FUNCTION = re.compile(r'^pub (?:extern "C" )?fn (\w+)(.*?)(?:^| )\{$', re.M | re.S)
 INNER = re.compile(r"^pub\(crate\) fn (\w+)(.*?)(?:^| )\{$", re.M | re.S)
 PATH = re.compile(r"(?<![\w/.])(?:(?:crates|oracle|docs|include|tests|bindings|specs|proofs|must-fail)/[\w./-]*\w|\w+\.antt)")
 DECLARED = re.compile(r"^\s*(?:(?:pub|unfoldable|abbrev|opaque|record|data) +)*([^\s:]+)", re.M)
-SIGNS = (("S(?=[A-Z])", "Signed", "Unsigned"), ("(?<=_)S(?![a-zA-Z])", "signed", "unsigned"), ("(?:^|(?<=-))S(?=-)", "signed", "unsigned"))
+SIGNS = (("S(?=[A-Z])", "Signed", "Unsigned"), ("(?<=_)S(?![a-zA-Z])", "signed", "unsigned"), ("(?:^|(?<=[-_]))S(?=[-_])", "signed", "unsigned"))
 seen = []
 
 
@@ -70,7 +71,7 @@ def functions(crate, row):
     for module, name, contract in public(crate):
         full = "::".join(filter(None, (crate.name, module, name)))
         see(named(module, name, row, row), f"docs/PROMISES.md: {full} is not in its row")
-        ensures = "".join(re.findall(r"ensures \{ λ [r_]\. ⌜(.*?)⌝", contract, re.S))
+        ensures = " ".join(CLAUSE.findall(contract))
         promise = [one for one in re.findall(r"\b[A-Z]\w+", ensures) if one not in ("Signed", "Unsigned", "File")][:1]
         if "no promise" not in row and "mathematics only" not in row:
             see(named(module, name, table, pages), f"docs/promises: {full} is in no table of its page")
@@ -134,8 +135,8 @@ def settled(crate, row):
         said = [one.get("One outcome", "") for one in table_rows(page) if named(module, name, one.get("Function", one.get("Export", "")), page)]
         laws = [law for span in spans(said[0]) for law in spelled(span)] if said else []
         if said and said[0].startswith("an equation"):
-            ensures = "".join(re.findall(r"ensures \{ λ [r_]\. ⌜(.*?)⌝", contract, re.S)).strip()
-            see(re.match(r"(now )?r ≡ |now \(\w+ \.exit\) ≡ ", ensures), f"docs/promises/{crate.name}.md: the contract of {full} is no equation")
+            ensures = " ".join(CLAUSE.findall(contract)).strip()
+            see(re.match(r"(result|result\.now|\w+\.new) ≡ ", ensures), f"docs/promises/{crate.name}.md: the contract of {full} is no equation")
         else:
             opened = said and said[0].startswith("open:")
             see((laws or opened) and all(law in declared for law in laws), f"docs/promises/{crate.name}.md: what settles the answer of {full}? ({said})")
@@ -143,7 +144,7 @@ def settled(crate, row):
         see(not said or not said[0].startswith("open") or f"`{full}`" in open_ones or f"`{crate.name}`" in open_ones, f"docs/PROMISES.md: {full} leaves something open and is no exception")
 
 
-USE = re.compile(r"^(?:ghost )?use Rattle·(\w+?)(?:·specs)?\.specs\.([\w.-]+)\.\{([^}]*)\}", re.M)
+USE = re.compile(r"^(?:ghost )?use Rattle\.(\w+)\.specs\.([\w.-]+)\.\{([^}]*)\}", re.M)
 DEFINED = re.compile(r"^ *(?:(?:unfoldable|abbrev) pub|pub (?:record|data)) +([^\s:({]+)", re.M)
 
 
