@@ -1,5 +1,7 @@
 // Digit views (S's `DigitsUnds`): a view is a part of the lent text with no `_` at either end. Every function takes any
 // run, also one that is no view.
+#![tactic(auto)]
+
 ghost use Rattle.digits.specs.Promise.{New, Upto, From, AfterFirst, BeforeLast};
 ghost use Rattle.digits.specs.Promise.{Len, First, Last, LeadingZeros, TrailingZeros};
 ghost use Rattle.digits.specs.Promise.{WithoutLeadingZeros, WithoutTrailingZeros};

@@ -1,4 +1,6 @@
 // Formats, manners and answers, and `settle`: an exact number into a format in a manner.
+#![tactic(auto)]
+
 mod place;
 pub mod signed;
 pub mod unsigned;
