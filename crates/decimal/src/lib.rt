@@ -1,4 +1,6 @@
 // The exact writer of document 01, module 6: a raw as the decimal text of its number.
+#![tactic(auto)]
+
 ghost use Rattle.std.specs.Prelude.{◌≡◌, ◌++◌, ◌+◌, ◌-◌, ◌≤◌, ◌<◌, length, drop};
 ghost use Rattle.decimal.specs.Meaning.{byte_of, sign_text, text_of};
 ghost use Rattle.decimal.specs.Layout.{places, Filled, put_answer, put_over};
@@ -20,7 +22,7 @@ const POINT: usize = 21;
 const PLACES: usize = 87;
 
 // Where a text stands in its layout.
-#[derive(Drop)]
+#[derive(Clone, Copy)]
 struct Span {
     start: usize,
     end: usize,

@@ -9,7 +9,7 @@ pub mod judge;
 pub const FILE_LIMIT: usize = 16384;
 
 // The values of a file; or a refusal; or 42, with the number of the first refused line and its answer.
-#[derive(Drop)]
+#[derive(Clone, Copy)]
 pub enum FileAnswer {
     Done { values: u32 },
     Refused(u32),

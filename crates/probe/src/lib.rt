@@ -4,7 +4,7 @@
 use scan::{Found, Parsed};
 
 #[repr(C)]
-#[derive(Drop)]
+#[derive(Clone, Copy)]
 pub struct Probe {
     pub number: u32,
     pub radix: u32,

@@ -13,7 +13,7 @@ mod mark;
 mod parts;
 
 // A number as it stands in the text. `base` is what the exponent scales by.
-#[derive(Drop)]
+#[derive(Clone, Copy)]
 pub struct Parsed {
     pub neg: bool,
     pub whole: Run,
@@ -23,7 +23,7 @@ pub struct Parsed {
     pub exp: u64,
 }
 
-#[derive(Drop)]
+#[derive(Clone, Copy)]
 pub enum Found {
     Number(Parsed),
     Refused(u32),
