@@ -41,7 +41,8 @@ fn put(neg: bool, magnitude: u64, frac: u32, out: &mut [u8]) -> UnsignedAnswer
     if out.len() < end - start {
         return UnsignedAnswer::Refused(TOO_SMALL);
     }
-    let count = bytes::copy(&text[start..end], out);
+    let count = end - start;
+    out[..count].copy_from_slice(&text[start..end]);
     UnsignedAnswer::Done {
         raw: count as u64,
         flag: false,
