@@ -1,4 +1,4 @@
-/* Tamqoret: proved fixed-point numbers for hearing aids. Link with libcapi.a (`rt staticlib capi`).
+/* Tamqoret: proved fixed-point numbers for hearing aids. Link with libcapi.a (`tools/archive capi`).
  *
  * A format is a width (8, 16, 32 or 64), signed or unsigned by the function's name, and frac fraction bits, 0 to the
  * width. A raw r stands for r / 2^frac.

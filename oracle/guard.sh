@@ -1,6 +1,6 @@
 #!/bin/sh
 # oracle/guard.sh [ARCHIVES [CALLS [SEED]]]: builds oracle/guard/main.rs against libcapi.a of ARCHIVES (target/staticlib if not given:
-# `rt staticlib capi`), and runs it. Its last line is 'N passed, M failed'. The groups of functions that the archive has are found in it.
+# `tools/archive capi`), and runs it. Its last line is 'N passed, M failed'. The groups of functions that the archive has are found in it.
 set -eu
 here=$(cd "$(dirname "$0")" && pwd)
 archives=${1:-$here/../target/staticlib}

@@ -1,4 +1,4 @@
-//! Links libcapi.a (`rt staticlib capi`) from the folder TAMQORET_LIB, or from target/staticlib of the repository.
+//! Links libcapi.a (`tools/archive capi`) from the folder TAMQORET_LIB, or from target/staticlib of the repository.
 
 use std::path::PathBuf;
 
@@ -9,7 +9,7 @@ fn main() {
     println!("cargo::rerun-if-env-changed=TAMQORET_LIB");
     println!("cargo::rerun-if-changed={}", archive.display());
     if !archive.is_file() {
-        println!("cargo::error=no {}: run `rt staticlib capi`, or name its folder in TAMQORET_LIB", archive.display());
+        println!("cargo::error=no {}: run `tools/archive capi`, or name its folder in TAMQORET_LIB", archive.display());
     }
     println!("cargo::rustc-link-search=native={}", folder.display());
     println!("cargo::rustc-link-lib=static=capi");

@@ -1,6 +1,6 @@
 #!/bin/sh
 # bindings/rust/test.sh [ARCHIVES]: builds the crate, its tests and its example with rustc alone against libcapi.a of ARCHIVES (target/staticlib
-# of the repository if not given: `rt staticlib capi`), and runs them. Its last line is 'N passed, M failed'.
+# of the repository if not given: `tools/archive capi`), and runs them. Its last line is 'N passed, M failed'.
 set -eu
 here=$(cd "$(dirname "$0")" && pwd)
 archives=${1:-$here/../../target/staticlib}

@@ -21,7 +21,7 @@
 //!
 //! [`fitting()`] reads the taps of a fitting file, [`headroom()`] says whether they can ever clip, and [`Filter`] runs blocks of samples.
 //!
-//! To build: `rt staticlib capi` in the repository writes the archive; `cargo test --offline` here links it from `target/staticlib`, or
+//! To build: `tools/archive capi` in the repository writes the archive; `cargo test --offline` here links it from `target/staticlib`, or
 //! from the folder that `TAMQORET_LIB` names.
 
 #![no_std]

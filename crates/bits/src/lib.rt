@@ -1,5 +1,7 @@
 // Reading in radix 2, 8 and 16, where a digit is a whole number of bits: the digits are cut at the bit that the format
 // and the exponent ask for, and no exponent is ever expanded. An inner function of the readers.
+#![tactic(auto)]
+
 ghost use Rattle.std.specs.Prelude.{◌≡◌, ◌+◌, ◌-◌, ◌*◌, ◌%◌, ◌^◌, ◌<◌, ◌≤◌};
 ghost use Rattle.laws.specs.Nearest.{nearest_even};
 ghost use Rattle.grammar.specs.Meaning.{raw_of};

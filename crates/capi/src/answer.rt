@@ -6,7 +6,7 @@ use format::{Manner, SignedAnswer, UnsignedAnswer};
 
 // tq_signed
 #[repr(C)]
-#[derive(Drop)]
+#[derive(Clone, Copy)]
 pub struct CSigned {
     pub number: u32,
     pub flag: u32,
@@ -15,7 +15,7 @@ pub struct CSigned {
 
 // tq_unsigned
 #[repr(C)]
-#[derive(Drop)]
+#[derive(Clone, Copy)]
 pub struct CUnsigned {
     pub number: u32,
     pub flag: u32,

@@ -10,7 +10,7 @@ const REFUSED_LINE: u32 = 42;
 
 // tq_file
 #[repr(C)]
-#[derive(Drop)]
+#[derive(Clone, Copy)]
 pub struct CFile {
     pub number: u32,
     pub line: u32,

@@ -1,4 +1,6 @@
 // The C interface: each function calls one public function of the library and copies its answer (include/tamqoret.h).
+#![tactic(auto)]
+
 mod answer;
 pub mod c_arith;
 pub mod c_bytes;

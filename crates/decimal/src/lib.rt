@@ -1,4 +1,6 @@
 // The exact writer of document 01, module 6: a raw as the decimal text of its number.
+#![tactic(auto)]
+
 ghost use Rattle.std.specs.Prelude.{◌≡◌, ◌++◌, ◌+◌, ◌-◌, ◌≤◌, ◌<◌, length, drop};
 ghost use Rattle.decimal.specs.Meaning.{byte_of, sign_text, text_of};
 ghost use Rattle.decimal.specs.Layout.{places, Filled, put_answer, put_over};
@@ -20,7 +22,7 @@ const POINT: usize = 21;
 const PLACES: usize = 87;
 
 // Where a text stands in its layout.
-#[derive(Drop)]
+#[derive(Clone, Copy)]
 struct Span {
     start: usize,
     end: usize,
@@ -39,7 +41,8 @@ fn put(neg: bool, magnitude: u64, frac: u32, out: &mut [u8]) -> UnsignedAnswer
     if out.len() < end - start {
         return UnsignedAnswer::Refused(TOO_SMALL);
     }
-    let count = bytes::copy(&text[start..end], out);
+    let count = end - start;
+    out[..count].copy_from_slice(&text[start..end]);
     UnsignedAnswer::Done {
         raw: count as u64,
         flag: false,

@@ -10,7 +10,7 @@ pub mod count;
 pub mod part;
 
 // The digit at an end of a view, if there is one.
-#[derive(Drop)]
+#[derive(Clone, Copy)]
 pub enum Digit {
     Is(u8),
     Nothing,

@@ -1,5 +1,7 @@
 // The second layer (S's `DigitsExp`): some leading zeros, two views, some trailing zeros. A view stands here as two
 // places of the lent text with its digit count. Zeros are counts: no exponent is ever written out.
+#![tactic(auto)]
+
 ghost use Rattle.std.specs.Prelude.{◌^◌, ◌<◌, length};
 ghost use Rattle.digits_exp.specs.Meaning.{IsExp, digits_exp_of};
 ghost use Rattle.digits_exp.specs.Promise.{ViewOf, NewIntFrac, LenExp, SplitAt, SplitFirst};
@@ -10,14 +12,14 @@ mod splitting;
 mod view;
 
 // A view: the text from `from` up to `to`, and how many digits it has.
-#[derive(Drop)]
+#[derive(Clone, Copy)]
 pub struct Span {
     pub from: usize,
     pub to: usize,
     pub digits: usize,
 }
 
-#[derive(Drop)]
+#[derive(Clone, Copy)]
 pub struct DigitsExp {
     pub leading_zeros: usize,
     pub part1: Span,
@@ -26,21 +28,21 @@ pub struct DigitsExp {
 }
 
 // Two views, one after the other.
-#[derive(Drop)]
+#[derive(Clone, Copy)]
 pub struct Pair {
     pub first: Span,
     pub second: Span,
 }
 
 // The digits of a number: those of its integer and those of its fraction.
-#[derive(Drop)]
+#[derive(Clone, Copy)]
 pub struct IntFrac {
     pub int: DigitsExp,
     pub frac: DigitsExp,
 }
 
 // How many digits a split takes of each: of the zeros in front, of either view, and of the zeros behind.
-#[derive(Drop)]
+#[derive(Clone, Copy)]
 pub struct Counts {
     pub front: usize,
     pub one: usize,
@@ -48,14 +50,14 @@ pub struct Counts {
     pub behind: usize,
 }
 
-#[derive(Drop)]
+#[derive(Clone, Copy)]
 pub struct Halves {
     pub first: DigitsExp,
     pub last: DigitsExp,
 }
 
 // The first digit with the others behind it, if there is one.
-#[derive(Drop)]
+#[derive(Clone, Copy)]
 pub enum FirstDigit {
     Is { digit: u8, rest: DigitsExp },
     Nothing,

@@ -1,4 +1,6 @@
 // Exact results, once for both signs: an operand is a sign and a word, a result a sign and two words.
+#![tactic(auto)]
+
 ghost use Rattle.std.specs.Prelude.{◌≡◌, true, ◌+◌, ◌*◌, ◌^◌, ◌≤◌, ◌<◌, pos, neg_ℤ, ◌+ℤ◌, ◌*ℤ◌};
 ghost use Rattle.std.specs.Int.Signed.{quot_z, rem_z};
 ghost use Rattle.laws.specs.Floor.{floor as floor_of};
@@ -9,14 +11,14 @@ ghost use Rattle.exact.specs.Meaning.{number_of, exact_of};
 use wide::Wide;
 
 // An operand.
-#[derive(Drop)]
+#[derive(Clone, Copy)]
 pub struct Number {
     pub neg: bool,
     pub size: u64,
 }
 
 // A result.
-#[derive(Drop)]
+#[derive(Clone, Copy)]
 pub struct Exact {
     pub neg: bool,
     pub high: u64,

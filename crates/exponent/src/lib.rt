@@ -1,5 +1,7 @@
 // The exponent of a text, a byte at a time: a digit takes it further, a `_` that is skipped leaves it, anything else
 // is refused. An inner function of the scanner.
+#![tactic(auto)]
+
 ghost use Rattle.std.specs.Prelude.{◌≡◌, ◌≤◌};
 ghost use Rattle.grammar.specs.Meaning.{exp_limit};
 ghost use Rattle.exponent.specs.Exponent.{exp_under, exp_digit, exp_other, exp_step_of};
@@ -8,7 +10,7 @@ use grammar::byte::Class;
 use grammar::{byte, refusal};
 
 // A step of the exponent: what it is after the byte, or a refusal.
-#[derive(Drop)]
+#[derive(Clone, Copy)]
 pub enum ExpStep {
     On(u64),
     Refuse(u32),

@@ -1,6 +1,6 @@
 -- Samples the other way up: every sum, level and history is the other way up too, and so is an output but at -32768, which has no counterpart.
 -- Assumes nothing.
-use Rattle.std.specs.Prelude.{◌≡◌, refl, ◌↔◌, ◌⊎◌, false, List, [], ◌∷◌, map, ℕ, zero, suc, ℤ, ◌+ℤ◌, ◌*ℤ◌, take, ◌≤ℤ◌, ◌<ℤ◌}
+use Rattle.std.specs.Prelude.{◌≡◌, refl, ◌↔◌, ◌⊎◌, false, List, [], ◌∷◌, map, ℕ, zero, suc, ℤ, ◌*ℤ◌, take, ◌≤ℤ◌, ◌<ℤ◌}
 use Rattle.std.proofs.Common.{sym, ◌∙◌, ap, inl, inr}
 use Rattle.std.proofs.Math.IntN.{negsuc, neg_ℤ}
 use Rattle.laws.specs.Diff.{up_neg, dn-neg}

@@ -17,11 +17,11 @@ fn bit(b: bool) -> u8
 
 // One sample in front of the line, and its output.
 fn turn(taps: &[i16], window: &mut [i16], at: usize, x: i16) -> Held
-    requires taps_len_bound { length taps.now ≤ most_taps }
+    requires few_taps { length taps.now ≤ most_taps }
     requires window_len { length window.old ≡ most_taps + most_taps }
-    requires at_lt_most_taps { at < most_taps }
-    ensures window_after { window.new ≡ set window.old at x }
-    ensures value { result ≡ held_of (level_of taps.now (take most_taps (drop at window.new))) }
+    requires at_in_range { at < most_taps }
+    ensures written { window.new ≡ set window.old at x }
+    ensures output { result ≡ held_of (level_of taps.now (take most_taps (drop at window.new))) }
 {
     window[at] = x;
     sum::output(taps, &window[at..])
@@ -35,12 +35,11 @@ pub(crate) fn through(
     outputs: &mut [i16],
     clips: &mut [u8],
 ) -> u64
-    requires taps_len_bound { length taps.now ≤ most_taps }
+    requires few_taps { length taps.now ≤ most_taps }
     requires line_len { length line.old ≡ most_taps }
     requires outputs_len { length outputs.old ≡ length samples.now }
     requires clips_len { length clips.old ≡ length samples.now }
-    ensures { Through taps.now line.old samples.now line.new
-        outputs.new clips.new result }
+    ensures { Through taps.now line.old samples.now line.new outputs.new clips.new result }
 {
     let mut window = line::room();
     line::laid(line, &mut window);

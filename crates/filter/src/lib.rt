@@ -1,4 +1,6 @@
 // The filter (01, module 7). Taps and samples are I1F15 raws; the newest sample stands first.
+#![tactic(auto)]
+
 ghost use Rattle.filter.specs.Meaning.{state_of};
 ghost use Rattle.filter.specs.Promise.{Silent, Steps, Runs};
 
@@ -13,13 +15,13 @@ use format::{SignedAnswer, UnsignedAnswer};
 pub const TAPS: usize = 64;
 
 // The last samples, newest first.
-#[derive(Drop)]
+#[derive(Clone, Copy)]
 pub struct State {
     pub samples: [i16; TAPS],
 }
 
 // One step: the output with its clip flag, or the refusal; and the state after it.
-#[derive(Drop)]
+#[derive(Clone, Copy)]
 pub struct Stepped {
     pub answer: SignedAnswer,
     pub state: State,
@@ -66,9 +68,8 @@ pub fn run(
     outputs: &mut [i16],
     clips: &mut [u8],
 ) -> UnsignedAnswer
-    ensures { Runs taps.now (state_of state.old) samples.now
-        outputs.old clips.old result (state_of state.new) outputs.new
-        clips.new }
+    ensures { Runs taps.now (state_of state.old) samples.now outputs.old clips.old result
+        (state_of state.new) outputs.new clips.new }
 {
     let fault = fault::block(taps.len(), samples.len(), outputs.len(), clips.len());
     if fault != 0 {

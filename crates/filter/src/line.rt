@@ -55,7 +55,7 @@ pub(crate) fn laid(line: &[i16; TAPS], window: &mut [i16; ROOM])
 // The line at a place of the window.
 pub(crate) fn kept(window: &[i16; ROOM], at: usize, line: &mut [i16; TAPS])
     requires window_len { length window.now ≡ most_taps + most_taps }
-    requires at_le_most_taps { at ≤ most_taps }
+    requires at_in_range { at ≤ most_taps }
     requires line_len { length line.old ≡ most_taps }
     ensures { line.new ≡ take most_taps (drop at window.now) }
 {
@@ -70,11 +70,11 @@ pub(crate) fn kept(window: &[i16; ROOM], at: usize, line: &mut [i16; TAPS])
 // The place before the newest sample. Where the line has come to the front, it is laid at the end again.
 pub(crate) fn ahead(window: &mut [i16; ROOM], at: usize, line: &mut [i16; TAPS]) -> usize
     requires window_len { length window.old ≡ most_taps + most_taps }
-    requires at_le_most_taps { at ≤ most_taps }
+    requires at_in_range { at ≤ most_taps }
     requires line_len { length line.old ≡ most_taps }
-    ensures upper_bound { result < most_taps }
-    ensures at { At window.new (result + 1) (take most_taps (drop at window.old)) }
-    ensures line_len_2 { length line.new ≡ most_taps }
+    ensures place { result < most_taps }
+    ensures line_there { At window.new (result + 1) (take most_taps (drop at window.old)) }
+    ensures line_len_after { length line.new ≡ most_taps }
 {
     if at != 0 {
         return at - 1;

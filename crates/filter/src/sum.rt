@@ -4,7 +4,7 @@ ghost use Rattle.filter.specs.Meaning.{most_taps, sum_of, rounded, level_of};
 ghost use Rattle.filter.specs.Sum.{held_of};
 
 // An output, and whether holding changed it.
-#[derive(Drop)]
+#[derive(Clone, Copy)]
 pub(crate) struct Held {
     pub value: i16,
     pub clipped: bool,
@@ -19,10 +19,10 @@ fn product(tap: i16, sample: i16) -> i64
 
 // The exact sum of the products. A plain loop, so that the compiler can take several products at a time.
 fn dot(taps: &[i16], line: &[i16]) -> i64
-    requires taps_len_bound { length taps.now ≤ most_taps }
-    requires taps_in_bounds { length taps.now ≤ length line.now }
+    requires few_taps { length taps.now ≤ most_taps }
+    requires enough_samples { length taps.now ≤ length line.now }
     ensures value { result ≡ sum_of taps.now line.now }
-    ensures result_bound { nat_abs result ≤ most_taps * 2 ^ 30 }
+    ensures bound { nat_abs result ≤ most_taps * 2 ^ 30 }
 {
     let mut sum: i64 = 0;
     let mut i = 0;
@@ -47,8 +47,8 @@ fn round(p: i64) -> i64
 
 // The output before it is held.
 pub fn level(taps: &[i16], line: &[i16]) -> i64
-    requires taps_len_bound { length taps.now ≤ most_taps }
-    requires taps_in_bounds { length taps.now ≤ length line.now }
+    requires few_taps { length taps.now ≤ most_taps }
+    requires enough_samples { length taps.now ≤ length line.now }
     ensures { result ≡ level_of taps.now line.now }
 {
     round(dot(taps, line))
@@ -78,8 +78,8 @@ fn hold(y: i64) -> Held
 
 // The output for a line of samples, with its clip flag.
 pub(crate) fn output(taps: &[i16], line: &[i16]) -> Held
-    requires taps_len_bound { length taps.now ≤ most_taps }
-    requires taps_in_bounds { length taps.now ≤ length line.now }
+    requires few_taps { length taps.now ≤ most_taps }
+    requires enough_samples { length taps.now ≤ length line.now }
     ensures { result ≡ held_of (level_of taps.now line.now) }
 {
     hold(level(taps, line))

@@ -1,5 +1,7 @@
 // The fitting file (01, module 9): its value lines as a list of line number,
 // raw and answer, and the taps if none is refused.
+#![tactic(auto)]
+
 ghost use Rattle.fitting.specs.Promise.{Reads};
 
 pub mod check;
@@ -9,7 +11,7 @@ pub mod judge;
 pub const FILE_LIMIT: usize = 16384;
 
 // The values of a file; or a refusal; or 42, with the number of the first refused line and its answer.
-#[derive(Drop)]
+#[derive(Clone, Copy)]
 pub enum FileAnswer {
     Done { values: u32 },
     Refused(u32),

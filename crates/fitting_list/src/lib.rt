@@ -1,6 +1,7 @@
 // The fitting file (01, module 9) with its list as one lent slice of records. `find` does the work in arrays,
-// `pick` makes an entry of them; `read_list` stores the entries, and is proved by a walk of its code by hand: the
-// borrow checker covers no reference to records.
+// `pick` makes an entry of them; `read_list` stores the entries.
+#![tactic(auto)]
+
 ghost use Rattle.std.specs.Prelude.{◌≡◌, ◌<◌};
 ghost use Rattle.filter.specs.Meaning.{most_taps};
 ghost use Rattle.fitting_list.specs.Promise.{ReadsList};
@@ -10,7 +11,7 @@ use filter::TAPS;
 use fitting::{FileAnswer, check, judge};
 
 // A value line: its number, its raw (0 where refused) and its answer (0 where not).
-#[derive(Drop)]
+#[derive(Clone, Copy)]
 pub struct Entry {
     pub line: u32,
     pub raw: i16,
@@ -67,9 +68,9 @@ fn find(file: &[u8], room: usize, taps: &mut [i16]) -> Found
 }
 
 // The entry at a place.
-fn pick(f: Found, i: usize) -> Entry
+fn pick(f: &Found, i: usize) -> Entry
     requires { i < most_taps }
-    ensures { result ≡ entry_at f i }
+    ensures { result ≡ entry_at f.now i }
 {
     let line = f.lines[i];
     let raw = f.raws[i];
@@ -86,7 +87,7 @@ pub fn read_list(file: &[u8], list: &mut [Entry], taps: &mut [i16]) -> FileAnswe
     let n = f.n;
     let mut i = 0;
     while i < n {
-        list[i] = pick(f, i);
+        list[i] = pick(&f, i);
         i = i + 1;
     }
     f.outcome

@@ -10,14 +10,14 @@ const UNDERSCORE: u8 = 95;
 const POINT: u8 = 46;
 
 // A digit, and the position after it.
-#[derive(Drop)]
+#[derive(Clone, Copy)]
 pub struct Next {
     pub digit: u64,
     pub at: usize,
 }
 
 // The number that some digits make, and the position after them.
-#[derive(Drop)]
+#[derive(Clone, Copy)]
 pub struct Taken {
     pub number: Folded,
     pub at: usize,

@@ -1,5 +1,7 @@
 // A number of any size, folded into one word: what it is modulo 2^64, and whether it is past that. No format needs more
 // of it. body.rt walks the digits of a text and folds them. Inner functions of the readers.
+#![tactic(auto)]
+
 ghost use Rattle.std.specs.Prelude.{◌≡◌, ◌+◌, ◌*◌, ◌^◌, ◌<◌};
 ghost use Rattle.wide.specs.Meaning.{value_of as wide_of};
 ghost use Rattle.fold.specs.Fold.{fold_of, folded_value, bit};
@@ -9,14 +11,14 @@ use wide::Wide;
 
 pub mod body;
 
-#[derive(Drop)]
+#[derive(Clone, Copy)]
 pub struct Folded {
     pub low: u64,
     pub over: bool,
 }
 
 // How one number compares with another.
-#[derive(Drop)]
+#[derive(Clone, Copy)]
 pub enum Order {
     Less,
     Same,

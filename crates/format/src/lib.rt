@@ -8,7 +8,7 @@ pub mod unsigned;
 ghost use Rattle.format.specs.Promise.{Check, IsWidth};
 
 // How a result that may not fit is answered (01, "Domain and numbers").
-#[derive(Drop)]
+#[derive(Clone, Copy)]
 pub enum Manner {
     Strict,
     Saturating,
@@ -17,14 +17,14 @@ pub enum Manner {
 }
 
 // An answer in a signed format: the raw with its flag, or the number of the refusal.
-#[derive(Drop)]
+#[derive(Clone, Copy)]
 pub enum SignedAnswer {
     Done { raw: i64, flag: bool },
     Refused(u32),
 }
 
 // The same in an unsigned format. Counts and patterns are answered so too, with the flag clear.
-#[derive(Drop)]
+#[derive(Clone, Copy)]
 pub enum UnsignedAnswer {
     Done { raw: u64, flag: bool },
     Refused(u32),

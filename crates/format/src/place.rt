@@ -21,7 +21,7 @@ pub(crate) fn top(width: u32) -> u64
 }
 
 // Whether the magnitude of two words is within the limit, and the magnitude held to the limit.
-#[derive(Drop)]
+#[derive(Clone, Copy)]
 pub(crate) struct Placed {
     pub fits: bool,
     pub held: u64,

@@ -5,7 +5,7 @@ ghost use Rattle.grammar.specs.Automaton.{is_digit, base_of};
 ghost use Rattle.grammar.specs.Class.{class_of};
 
 // A byte in front of which a run of digits ends. A mark comes with what it scales by.
-#[derive(Drop)]
+#[derive(Clone, Copy)]
 pub enum Class {
     Sign,
     Point,

@@ -1,5 +1,7 @@
 // What a text means (docs/GRAMMAR.md): the radixes, the longest text, the
 // classes of bytes, and the numbers of the refusals.
+#![tactic(auto)]
+
 ghost use Rattle.grammar.specs.Promise.{IsRadix};
 
 pub mod byte;

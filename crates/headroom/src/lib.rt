@@ -1,5 +1,7 @@
 // The headroom check (01, module 8): can any samples make these taps clip? Taps and samples
 // are I1F15 raws; the newest sample stands first.
+#![tactic(auto)]
+
 ghost use Rattle.headroom.specs.Promise.{Heads};
 
 mod fault;

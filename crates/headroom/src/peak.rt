@@ -6,7 +6,7 @@ ghost use Rattle.headroom.specs.Meaning.{by_sign, driven_of, verdict_of, witness
 use filter::{TAPS, sum};
 
 // The two ways to clip.
-#[derive(Drop)]
+#[derive(Clone, Copy)]
 enum Way {
     High,
     Low,
@@ -53,7 +53,7 @@ fn drive(way: Way, taps: &[i16]) -> [i16; TAPS]
 
 // The first samples of a line into the witness.
 fn keep(line: &[i16; TAPS], witness: &mut [i16])
-    requires witness_len_bound { length witness.old ≤ most_taps }
+    requires few_places { length witness.old ≤ most_taps }
     requires line_len { length line.now ≡ most_taps }
     ensures { witness.new ≡ take (length witness.old) line.now }
 {
@@ -68,18 +68,20 @@ fn keep(line: &[i16; TAPS], witness: &mut [i16])
 // The verdict: the filter's own sum of the driven samples, rounded as the filter rounds, against the ends of the range.
 // No taps come to the 2 (specs/Theorems.antt, `never-2`); the test stands as 01 defines the verdict.
 pub(crate) fn verdict(taps: &[i16], witness: &mut [i16]) -> u64
-    requires taps_len_bound { length taps.now ≤ most_taps }
+    requires few_taps { length taps.now ≤ most_taps }
     requires witness_len { length witness.old ≡ length taps.now }
     ensures { (result ≡ verdict_of taps.now)
         × (witness.new ≡ witness_of taps.now witness.old) }
 {
     let high = drive(Way::High, taps);
-    if 32767 < sum::level(taps, &high[..]) {
+    let clips_high = 32767 < sum::level(taps, &high[..]);
+    if clips_high {
         keep(&high, witness);
         return 1;
     }
     let low = drive(Way::Low, taps);
-    if sum::level(taps, &low[..]) < -32768 {
+    let clips_low = sum::level(taps, &low[..]) < -32768;
+    if clips_low {
         keep(&low, witness);
         return 2;
     }

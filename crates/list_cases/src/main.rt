@@ -1,5 +1,5 @@
 // What `fitting_list::read_list` answers, and what it leaves of a list and of taps, for each file of data/. Files and
-// `stdout` are made by oracle/list_cases.py. `read` lends the records: a walk by hand proves it; the rest is covered.
+// `stdout` are made by oracle/list_cases.py. `read` lends the records.
 #![tactic(auto)]
 
 ghost use Rattle.std.specs.Prelude.{◌≤◌, length, IfOk};

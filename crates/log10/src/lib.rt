@@ -1,4 +1,6 @@
 // The logarithm of document 01, module 3: the greatest k with 10^k <= raw / 2^F.
+#![tactic(auto)]
+
 ghost use Rattle.std.specs.Prelude.{◌≡◌, ◌+◌, ◌-◌, ◌*◌, ◌^◌, ◌≤◌, ◌<◌, pos, ◌-ℤ◌};
 ghost use Rattle.log10.specs.Meaning.{reaches, log10_of};
 

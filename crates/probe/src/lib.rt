@@ -1,10 +1,12 @@
 // The scanner for a program from outside: what a text is, and where its digits stand, before any
 // number is made of them. It is no part of the library's interface: oracle/scan links it to hold the
 // scanner against the automaton of docs/GRAMMAR.md.
+#![tactic(auto)]
+
 use scan::{Found, Parsed};
 
 #[repr(C)]
-#[derive(Drop)]
+#[derive(Clone, Copy)]
 pub struct Probe {
     pub number: u32,
     pub radix: u32,

@@ -1,4 +1,6 @@
 // More exact results, once for both signs: abs, signum, Euclidean division, mul_add, dist, mean.
+#![tactic(auto)]
+
 ghost use Rattle.std.specs.Prelude.{◌≡◌, true, ◌+◌, ◌*◌, ◌^◌, ◌≤◌, ◌<◌, min, pos, nat_abs, ◌+ℤ◌, ◌-ℤ◌, ◌*ℤ◌};
 ghost use Rattle.laws.specs.Floor.{floor as floorIn};
 ghost use Rattle.format.specs.Meaning.{with_sign};

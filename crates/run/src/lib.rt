@@ -1,5 +1,7 @@
 // A run of digits in a text: from its first digit to the byte in front of
 // which it ends. An inner function of the scanner.
+#![tactic(auto)]
+
 ghost use Rattle.std.specs.Prelude.{◌≡◌, ◌+◌, ◌≤◌, length, drop};
 ghost use Rattle.grammar.specs.Run.{in_run, run_more};
 ghost use Rattle.run.specs.Run.{run_at};
@@ -7,7 +9,7 @@ ghost use Rattle.run.specs.Run.{run_at};
 use grammar::byte;
 
 // A run of digits in the text, and how many digits it has (`_` do not count).
-#[derive(Drop)]
+#[derive(Clone, Copy)]
 pub struct Run {
     pub from: usize,
     pub to: usize,

@@ -1,6 +1,8 @@
 // Which texts are numbers, and where their digits stand: one pass over the bytes, by runs of digits
 // (docs/GRAMMAR.md; `parse_bounds` and `lit` of S's src/from_str.rs). A plain text is scanned here, a literal
 // in literal.rt. Inner functions of the readers.
+#![tactic(auto)]
+
 ghost use Rattle.std.specs.Prelude.{◌≡◌, true};
 ghost use Rattle.grammar.specs.Meaning.{plain_reading, is_radix};
 ghost use Rattle.scan.specs.Found.{Finds};
@@ -13,7 +15,7 @@ mod mark;
 mod parts;
 
 // A number as it stands in the text. `base` is what the exponent scales by.
-#[derive(Drop)]
+#[derive(Clone, Copy)]
 pub struct Parsed {
     pub neg: bool,
     pub whole: Run,
@@ -23,7 +25,7 @@ pub struct Parsed {
     pub exp: u64,
 }
 
-#[derive(Drop)]
+#[derive(Clone, Copy)]
 pub enum Found {
     Number(Parsed),
     Refused(u32),

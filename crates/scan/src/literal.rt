@@ -6,7 +6,7 @@ ghost use Rattle.scan.specs.Literal.{literal_sign, start_of, FindsLiteral};
 use crate::{Found, parts};
 
 // What a literal is, and its radix.
-#[derive(Drop)]
+#[derive(Clone, Copy)]
 pub struct Written {
     pub radix: u32,
     pub found: Found,

@@ -1,5 +1,7 @@
 // The raw of a decimal number: the digits before the point exactly, those after it rounded by the first 27 and one
 // comparison. An inner function of the readers.
+#![tactic(auto)]
+
 ghost use Rattle.std.specs.Prelude.{◌≡◌, ℕ, ◌+◌, ◌*◌, ◌^◌, ◌≤◌, ◌<◌, length, replicate};
 ghost use mathlib.Core.List.{◌++◌, Memᴰ};
 ghost use Rattle.laws.specs.Nearest.{nearest_even};

@@ -13,7 +13,7 @@ use wide::Wide;
 const DIVISOR: u64 = 14901161193847656250;
 
 // Some digits as one number, with zeros after the last, and the position after them.
-#[derive(Drop)]
+#[derive(Clone, Copy)]
 struct Group {
     pub value: u64,
     pub at: usize,

@@ -1,4 +1,6 @@
 // A number in units of 2^frac steps, in each rounding, once for both signs; and the result in steps.
+#![tactic(auto)]
+
 ghost use Rattle.std.specs.Prelude.{◌≡◌, true, ◌*◌, ◌/◌, ◌%◌, ◌^◌, ◌≤◌, ◌<◌, ltb, pos, ◌-ℤ◌};
 ghost use Rattle.laws.specs.Floor.{floor as floorIn};
 ghost use Rattle.laws.specs.Nearest.{nearest_even};

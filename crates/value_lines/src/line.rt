@@ -16,7 +16,7 @@ const WIDTH: u32 = 16;
 const FRAC: u32 = 15;
 
 // What a value line gives: its raw, 0 where it is refused; and its answer, 0 where it is not.
-#[derive(Drop)]
+#[derive(Clone, Copy)]
 pub(crate) struct Value {
     pub raw: i16,
     pub answer: u32,

@@ -8,7 +8,7 @@ use super::{HALF, Wide};
 const BASE: u64 = 0x1_0000_0000;
 
 // A quotient of one word, and what the division leaves.
-#[derive(Drop)]
+#[derive(Clone, Copy)]
 pub(crate) struct Step {
     pub quotient: u64,
     pub rest: u64,

@@ -1,5 +1,7 @@
 // Numbers of up to 128 bits as two words of 64: what S does with `u128` and src/int256.rs, at the width that reading,
 // arithmetic and conversion need. Inner functions: the crates above meet what they require.
+#![tactic(auto)]
+
 ghost use Rattle.std.specs.Prelude.{◌+◌, ◌*◌, ◌^◌, ◌<◌, ◌≤◌};
 ghost use Rattle.wide.specs.Meaning.{value_of};
 ghost use Rattle.wide.specs.Promise.{Product, Sum, Difference, Less, Divided, ShiftedLeft, ShiftedRight, Scaled};
@@ -7,14 +9,14 @@ ghost use Rattle.wide.specs.Promise.{Product, Sum, Difference, Less, Divided, Sh
 mod divide;
 
 // A number of up to 128 bits.
-#[derive(Drop)]
+#[derive(Clone, Copy)]
 pub struct Wide {
     pub high: u64,
     pub low: u64,
 }
 
 // A quotient and what the division leaves.
-#[derive(Drop)]
+#[derive(Clone, Copy)]
 pub struct Quotient {
     pub quotient: Wide,
     pub rest: u64,

@@ -1,6 +1,5 @@
 -- `format::signed::below_zero` meets its contract: -1 - n is at least -2^63. Assumes nothing.
-use mathlib.Core.Path.{◌∙◌, ap}
-use lib.IntN.{ℤ, negsuc, ◌-ℤ◌}
+use lib.IntN.{negsuc}
 use mir.Syntax.{w64}
 use mir.Val.{SFits}
 use mir.Facts.{to_z-of_z}

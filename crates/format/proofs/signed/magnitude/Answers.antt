@@ -1,8 +1,7 @@
 -- `format::signed::magnitude` meets its contract: -1 - x of a negative x is a word that is not negative, one less than |x|.
 -- Assumes nothing.
 use native.Mathlib.Omega.{arith}
-use mathlib.Core.Path.{◌∙◌, ap}
-use lib.IntN.{ℤ, pos, negsuc, nat_abs, ◌-ℤ◌}
+use lib.IntN.{pos}
 use lib.Signed.{◌<ℤ◌, ◌≤ℤ◌, yes_non_neg}
 use mir.Syntax.{w64}
 use mir.Facts.{to_z-of_z}

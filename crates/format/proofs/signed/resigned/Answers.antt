@@ -1,6 +1,6 @@
 -- `format::signed::resigned` meets its contract: the lower half stands for itself, the upper half for 2^W less. Assumes nothing.
 use mathlib.Core.Path.{◌∙◌, ap}
-use Prim.Native.Nat.{ℕ, ◌-◌, ◌^◌}
+use Prim.Native.Nat.{ℕ, ◌-◌}
 use lib.IntN.{negsuc}
 use native.Mathlib.Omega.{arith}
 use mir.Syntax.{w64}

@@ -1,6 +1,5 @@
 -- `format::signed::wrapping` meets its contract: the residue stands for the one raw that is congruent. Assumes nothing.
-use mathlib.Core.Path.{◌∙◌, sym, subst}
-use Prim.Native.Nat.{ℕ, ◌^◌, ◌<◌}
+use mathlib.Core.Path.{◌∙◌}
 use mir.Syntax.{w64}
 use Rattle.laws.specs.Signed.{ok-back}
 use Rattle.format.specs.Meaning.{signed, exact}

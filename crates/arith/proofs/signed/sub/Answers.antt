@@ -1,0 +1,13 @@
+-- `arith::signed::sub` meets its promise: the exact difference, settled. Assumes nothing.
+use mathlib.Core.Path.{◌∙◌, ap₂}
+use mir.Syntax.{w64}
+use mir.Facts.{to_z-of_z}
+use lib.IntN.{ℤ, neg_ℤ, ◌+ℤ◌}
+use Rattle.exact.specs.Settled.{settled-signed}
+use Rattle.arith.proofs.signed.sub.Goals as goal
+
+pub returns : goal.returns
+returns c =
+    let fits = c.ranges in
+    settled-signed _ _ _ (c.signed_difference-x.ensures ∙ ap₂ (λ (x y : ℤ). x +ℤ neg_ℤ y) (to_z-of_z {w = w64} fits.a) (to_z-of_z {w = w64} fits.b))
+    c.settle.ensures

@@ -1,0 +1,44 @@
+-- `run` meets its promise: where the call is refused, nothing is done; else the block is through, and the line, which was the state, is the state again.
+-- Assumes nothing.
+use mathlib.Core.Path.{◌≡◌, sym, ◌∙◌}
+use mathlib.Core.Bool.{false}
+use mathlib.Core.List.{List}
+use Prim.Native.Nat.{ℕ}
+use lib.ListN.{length}
+use lib.IntN.{ℤ}
+use Rattle.format.specs.declared.UnsignedAnswer.TheVariants.{Done as DoneU}
+use Rattle.filter.specs.Refuse.{block_fit, refuses, goes_on}
+use Rattle.filter.specs.Block.{Through}
+use Rattle.filter.specs.Meaning.{state_of, run_of, ran, ran_done, ran_of}
+use Rattle.filter.proofs.run.Goals as goal
+
+-- a block that is through, put into the outcome
+same-run : {taps before samples final outputs : List ℤ} {marks : List ℕ} {count : ℕ} → Through taps before samples final outputs marks count
+    → ran (DoneU count false) (state_of final) outputs marks ≡ ran_done (run_of taps before samples)
+unfolding run_of
+same-run t = rw (t.final-is, t.outputs-are, t.marks-are, t.count-is)
+
+pub returns-then-fault-ne0 : goal.returns-then-fault-ne0
+unfolding ran_of
+returns-then-fault-ne0 c = refuses _ _ _ _ c.block-fault.ensures c.if-fault-ne0.true
+
+pub through-count-requires : goal.through-count-requires
+through-count-requires c =
+    let a = c.args in
+    let fault = c.block-fault in
+    let left = c.if-fault-ne0.false in
+    let fit = block_fit (length a.taps.now) (length a.samples.now) (length a.outputs.now) (length a.clips.now) (sym fault.ensures ∙ left) in
+    record {
+      few_taps = fit.few;
+      line_len = c.whole-line.ensures.1;
+      outputs_len = fit.outputs-fit;
+      clips_len = fit.clips-fit;
+    }
+
+pub returns : goal.returns
+unfolding ran_of
+returns c =
+    let fault = c.block-fault in
+    let left = c.if-fault-ne0.false in
+    let whole = c.whole-line.ensures.0 in
+    same-run (rw whole at c.through-count.ensures) ∙ goes_on _ _ _ _ fault.ensures left

@@ -1,0 +1,23 @@
+-- `from_float::unsigned::from` meets its contract: the refusals first, then the words are settled as the number is. Assumes nothing.
+use mathlib.Core.Path.{◌∙◌, ap}
+use Rattle.format.specs.Meaning.{unsigned, unsigned_answer}
+use Rattle.format.specs.Answer.{refused-unsigned}
+use Rattle.from_float.specs.Parts.{met, from-done, from-refused}
+use Rattle.from_float.proofs.unsigned.from.Goals as goal
+
+pub magnitude-m-requires : goal.magnitude-m-requires
+magnitude-m-requires c = (c.requires, (met _ _ _ _ _ c.of_call-fault.ensures c.if-fault-eq0.true).frac)
+
+pub fit-requires : goal.fit-requires
+fit-requires c = (met _ _ _ _ _ c.of_call-fault.ensures c.if-fault-eq0.true).width
+
+pub returns-then-fault-eq0 : goal.returns-then-fault-eq0
+returns-then-fault-eq0 c =
+    let m = c in
+    let n = m in
+    let fault = n in
+    c.fit.ensures
+    ∙ ap unsigned_answer (from-done _ _ _ _ _ fault.of_call-fault.ensures unsigned n.if-fault-eq0.true n.negative-neg.ensures m.magnitude-m.ensures)
+
+pub returns : goal.returns
+returns c = refused-unsigned (from-refused _ _ _ _ _ c.of_call-fault.ensures unsigned c.if-fault-eq0.false)

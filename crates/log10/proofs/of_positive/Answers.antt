@@ -1,0 +1,42 @@
+-- The guess of the raw's leading zeros (`Leading.antt`) and one more where the next power of ten is reached (`Mend.antt`).
+use mathlib.Core.Path.{◌≡◌, ◌∙◌}
+use mathlib.Core.Bool.{Bool, true, false}
+use Prim.Native.Nat.{◌+◌, ◌≤◌}
+use native.Mathlib.Omega.{arith}
+use lib.Count.{leading_top}
+use lib.IntN.{pos, ◌-ℤ◌}
+use mir.Syntax.{w64}
+use mir.Val.{bool_byte}
+use Rattle.laws.specs.Diff.{sub_out, orders}
+use Rattle.laws.specs.Signed.{ok-back}
+use Rattle.log10.proofs.Leading.{fives-fit}
+use Rattle.log10.proofs.Mend.{mended}
+use Rattle.log10.proofs.of_positive.Goals as goal
+
+one_at_most : (t : Bool) → bool_byte t ≤ 1
+one_at_most true = omega arith
+one_at_most false = omega arith
+
+pub guess-guess-requires : goal.guess-guess-requires
+guess-guess-requires c = (omega (arith, (leading_top 64 c.args.raw c.requires.0 c.ranges.raw.fits).1), c.requires.1)
+
+pub next_reached-requires : goal.next_reached-requires
+next_reached-requires c =
+    let a = c in
+    let e = c.guess-guess.ensures in
+    let fit = fives-fit a.args.raw a.args.frac c.guess-guess.result a.requires.0 a.ranges.raw.fits a.requires.1 (e.0, e.1) in
+    (e.2, e.3, e.4, fit)
+
+pub overflow_add-guess : goal.overflow_add-guess
+overflow_add-guess c = omega (arith, one_at_most c.next_reached.result, c.guess-guess.ensures)
+
+pub returns : goal.returns
+returns c =
+    let a = c in
+    let g = c.guess-guess in
+    let e = g.ensures in
+    let t = c.next_reached in
+    let n = g.result + bool_byte t.result in
+    let k : c.minus.result ≡ pos n -ℤ pos 20 = omega (orders, c.minus.ensures, sub_out (pos n) (pos 20)) in
+    ok-back w64 c.minus.result c.minus.type_inv ∙ k
+    ∙ mended a.args.raw a.args.frac g.result a.requires.0 a.ranges.raw.fits a.requires.1 (e.0, e.1) t.result t.ensures

@@ -1,0 +1,18 @@
+-- `to_float::signed::to` meets its contract: the refusals first, then the pattern of the magnitude with the sign. Assumes nothing.
+use mir.Syntax.{w64}
+use mir.Facts.{to_z-of_z}
+use Rattle.format.specs.Answer.{fault-unsigned}
+use Rattle.to_float.proofs.Encodes.{encode-room, answer-signed}
+use Rattle.to_float.proofs.signed.to.Goals as goal
+
+pub encode-requires : goal.encode-requires
+encode-requires c = encode-room _ _ _ _ c.requires c.check-fault.ensures c.if-fault-eq0.true
+
+pub returns-then-fault-eq0 : goal.returns-then-fault-eq0
+returns-then-fault-eq0 c =
+    let s = c in
+    answer-signed _ _ _ c.check-fault.ensures c.if-fault-eq0.true s.args.raw
+    (to_z-of_z {w = w64} s.ranges.raw) c.magnitude.ensures c.encode.ensures
+
+pub returns : goal.returns
+returns c = fault-unsigned _ _ c.check-fault.ensures c.if-fault-eq0.false

@@ -1,0 +1,28 @@
+-- `whole::signed::int` meets its promise: the format's refusals, then the integer part, fitted. Assumes nothing.
+use mathlib.Core.Path.{◌∙◌}
+use mir.Syntax.{w64}
+use mir.Facts.{to_z-of_z}
+use Rattle.format.specs.Answer.{fault-signed}
+use Rattle.exact.specs.Refusals.{checked}
+use Rattle.exact.specs.Settled.{one-signed}
+use Rattle.units.specs.Meaning.{int_part}
+use Rattle.whole.proofs.signed.int.Goals as goal
+
+pub int-x-requires : goal.int-x-requires
+int-x-requires c =
+    let m = checked _ _ c.check-fault.ensures c.if-fault-eq0.true in
+    (m.within, m.word)
+
+pub fit-requires : goal.fit-requires
+fit-requires c = (checked _ _ c.check-fault.ensures c.if-fault-eq0.true).width
+
+pub returns-then-fault-eq0 : goal.returns-then-fault-eq0
+returns-then-fault-eq0 c =
+    let w = c.args.width in
+    let f = c.args.frac in
+    one-signed (int_part w f) w f _ c.check-fault.ensures c.if-fault-eq0.true
+    (c.of_signed.ensures ∙ to_z-of_z {w = w64} c.ranges.a) c.int-x.ensures
+    c.fit.ensures
+
+pub returns : goal.returns
+returns c = fault-signed _ _ c.check-fault.ensures c.if-fault-eq0.false

@@ -1,0 +1,23 @@
+-- `whole::unsigned::floor` meets its promise: the format's refusals, then the floor, fitted. Assumes nothing.
+use Prim.Native.Nat.{◌^◌}
+use lib.IntN.{ℤ}
+use Rattle.format.specs.Answer.{fault-unsigned}
+use Rattle.exact.specs.Refusals.{checked}
+use Rattle.exact.specs.Settled.{one-unsigned}
+use Rattle.units.specs.Meaning.{floor_to}
+use Rattle.whole.proofs.unsigned.floor.Goals as goal
+
+pub floor-x-requires : goal.floor-x-requires
+floor-x-requires c = (checked _ _ c.check-fault.ensures c.if-fault-eq0.true).frac
+
+pub fit-requires : goal.fit-requires
+fit-requires c = (checked _ _ c.check-fault.ensures c.if-fault-eq0.true).width
+
+pub returns-then-fault-eq0 : goal.returns-then-fault-eq0
+returns-then-fault-eq0 c =
+    let f = c.args.frac in
+    one-unsigned (λ (z : ℤ). floor_to z (2 ^ f)) _ f _ c.check-fault.ensures c.if-fault-eq0.true
+    c.of_unsigned.ensures c.floor-x.ensures c.fit.ensures
+
+pub returns : goal.returns
+returns c = fault-unsigned _ _ c.check-fault.ensures c.if-fault-eq0.false
