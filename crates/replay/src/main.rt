@@ -32,7 +32,10 @@ fn main(rt: HostRuntime) -> io::Result<()> {
 fn replay(rt: &(impl Files + Print), name: &str) -> io::Result<()> {
     let mut file = std::fs::open(rt, name)?.take(LIMIT);
     let end = whole(&mut file)?;
-    println!(rt; "{name}: {} answers replayed, {} differ", end.answers, end.differ)
+    println!(rt;
+        "{name}: {} answers replayed, {} differ",
+        end.answers, end.differ
+    )
 }
 
 // A piece of the file after another, to its end.
