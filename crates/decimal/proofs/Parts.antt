@@ -9,7 +9,7 @@ use native.Mathlib.Omega.{arith}
 use lib.Dec.{eqb}
 use lib.Pow.{pow_pos, pow-add}
 use lib.ListN.{length, take, drop, set, length-set, length-append}
-use lib.Seq.{length-take-le, take-suc-set, take-add, take-append-add, take-length, drop_at}
+use lib.Seq.{length-take-le, take-suc-set, take-add, take-append-add, drop_at}
 use borrow.Author.Tests.{eqb-true, eqb-false, ne_eqb, le-leb, lt-leb}
 use Rattle.format.specs.declared.UnsignedAnswer.TheVariants.{Done, Refused}
 use Rattle.format.specs.Meaning.{unsigned_answer}
@@ -125,12 +125,12 @@ module _ (t out : List ℕ) where
   unfolding put buffer_after unsigned_answer
   put-short h = rw (lt-leb (length t) (length out) h) (refl, refl)
 
-  pub put-copied : {text left : List ℕ} {start end n : ℕ} → Filled t text start end → end - start ≤ length out
-      → n ≡ length (take (end - start) (drop start text))
-      → left ≡ take (length (take (end - start) (drop start text))) (take (end - start) (drop start text))
-      ++ drop (length (take (end - start) (drop start text))) out
-      → (Done n false ≡ put_answer t out) × (left ≡ put_over t out)
+  pub put-copied : {text left : List ℕ} {start end : ℕ} → Filled t text start end → end - start ≤ length out
+      → left ≡ take (end - start) (drop start text)
+      → (Done (end - start) false ≡ put_answer t out) × (left ++ drop (end - start) out ≡ put_over t out)
   unfolding put buffer_after unsigned_answer
-  put-copied {text} {start = start} {end = end} f h e q =
+  put-copied {text} {start = start} {end = end} f h e =
       let size : length t ≤ length out = omega (arith, f.span) in
-      rw (le-leb (length t) (length out) size) (ap (λ (k : ℕ). Done k false) (rw f.is at e), rw (f.is, take-length) at q)
+      let long : end - start ≡ length t = omega (arith, f.span) in
+      rw (le-leb (length t) (length out) size)
+      (ap (λ (k : ℕ). Done k false) long, ap₂ (λ (s : List ℕ) (k : ℕ). s ++ drop k out) (e ∙ f.is) long)

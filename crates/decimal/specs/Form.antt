@@ -96,6 +96,7 @@ starts-snoc : {ds : List ℕ} (d : ℕ) → Starts ds → Starts (ds ++ (d ∷ [
 starts-snoc d (starts h) = starts h
 
 starts-leads : {ds : List ℕ} → Starts ds → Leads ds
+starts-leads {ds = []} x' = elim x' [ ]
 starts-leads {ds = d ∷ []} (starts h) = lone
 starts-leads {ds = d ∷ e ∷ ds} (starts h) = first h
 

@@ -7,8 +7,8 @@ use crate::FileAnswer;
 
 // The first of the values that was refused.
 pub fn judge(lines: &[u32], answers: &[u32], values: u32) -> FileAnswer
-    requires values_in_bounds { values ≤ length lines.now }
-    requires values_in_bounds_2 { values ≤ length answers.now }
+    requires lines_room { values ≤ length lines.now }
+    requires answers_room { values ≤ length answers.now }
     ensures { result ≡ judged_of values (take values lines.now) (take values answers.now) }
 {
     let n = values as usize;
@@ -28,8 +28,8 @@ pub fn judge(lines: &[u32], answers: &[u32], values: u32) -> FileAnswer
 
 // The raws into the first taps.
 pub fn keep(raws: &[i16], taps: &mut [i16], values: u32)
-    requires values_in_bounds { values ≤ length raws.now }
-    requires values_in_bounds_2 { values ≤ length taps.old }
+    requires raws_room { values ≤ length raws.now }
+    requires taps_room { values ≤ length taps.old }
     ensures { taps.new ≡ over (take values raws.now) taps.old }
 {
     let n = values as usize;

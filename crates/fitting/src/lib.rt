@@ -1,5 +1,7 @@
 // The fitting file (01, module 9): its value lines as a list of line number,
 // raw and answer, and the taps if none is refused.
+#![tactic(auto)]
+
 ghost use Rattle.fitting.specs.Promise.{Reads};
 
 pub mod check;

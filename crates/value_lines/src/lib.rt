@@ -1,5 +1,7 @@
 // The value lines of a fitting file (01, module 9): how many there are, and the list of them, refused or not. A refused
 // line ends no file. Inner functions of the fitting file.
+#![tactic(auto)]
+
 ghost use Rattle.std.specs.Prelude.{◌≡◌, true, ◌≤◌, ◌<◌, length};
 ghost use Rattle.value_lines.specs.Meaning.{file_limit, is_value, values_of};
 ghost use Rattle.value_lines.specs.Store.{Entered, AllEntered};
@@ -32,9 +34,9 @@ fn enter(
     raws: &mut [i16],
     answers: &mut [u32],
 ) -> usize
-    requires n_in_bounds { is_value line.now ≡ true → n < length lines.old }
-    requires n_in_bounds_2 { is_value line.now ≡ true → n < length raws.old }
-    requires n_in_bounds_3 { is_value line.now ≡ true → n < length answers.old }
+    requires lines_room { is_value line.now ≡ true → n < length lines.old }
+    requires raws_room { is_value line.now ≡ true → n < length raws.old }
+    requires answers_room { is_value line.now ≡ true → n < length answers.old }
     ensures { Entered line.now number n lines.old raws.old
         answers.old lines.new raws.new answers.new result }
 {
@@ -52,10 +54,10 @@ fn enter(
 
 // The value lines of the file, in order.
 pub fn store(file: &[u8], lines: &mut [u32], raws: &mut [i16], answers: &mut [u32])
-    requires file_len_bound { length file.now ≤ file_limit }
-    requires file_in_bounds { length (values_of file.now) ≤ length lines.old }
-    requires file_in_bounds_2 { length (values_of file.now) ≤ length raws.old }
-    requires file_in_bounds_3 { length (values_of file.now) ≤ length answers.old }
+    requires short_file { length file.now ≤ file_limit }
+    requires lines_room { length (values_of file.now) ≤ length lines.old }
+    requires raws_room { length (values_of file.now) ≤ length raws.old }
+    requires answers_room { length (values_of file.now) ≤ length answers.old }
     ensures { AllEntered (values_of file.now) lines.old raws.old
         answers.old lines.new raws.new answers.new }
 {

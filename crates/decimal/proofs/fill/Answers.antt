@@ -23,6 +23,6 @@ returns c =
     let s = f in
     let m = s.args.magnitude in
     let k = s.args.frac in
-    joined (sign_text s.args.neg) (whole_text (m / 2 ^ k)) (fraction_text k (m % 2 ^ k)) s.args.text.now f.write-end.new.0 w.write-first.new.0
-    c.sign.new.0
+    joined (sign_text s.args.neg) (whole_text (m / 2 ^ k)) (fraction_text k (m % 2 ^ k)) s.args.text.now f.write-end.new.text w.write-first.new.text
+    c.sign.new.text
     c.sign.result w.write-first.result f.write-end.result s.requires.1 f.write-end.ensures w.write-first.ensures c.sign.ensures

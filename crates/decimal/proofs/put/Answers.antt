@@ -6,15 +6,9 @@ use Rattle.decimal.proofs.put.Goals as goal
 
 pub returns-then-out-end : goal.returns-then-out-end
 returns-then-out-end c =
-    let f = c in
-    let s = f in
-    put-short (text_of s.args.neg s.args.magnitude s.args.frac) s.args.out.now (omega (arith, c.if-out-end.true, f.fill-span.ensures.span))
+    put-short (text_of c.args.neg c.args.magnitude c.args.frac) c.args.out.now (omega (arith, c.if-out-end.true, c.fill-span.ensures.span))
 
 pub returns : goal.returns
 returns c =
-    let k = c in
-    let e = k in
-    let f = e in
-    let s = f in
-    put-copied (text_of s.args.neg s.args.magnitude s.args.frac) s.args.out.now f.fill-span.ensures e.if-out-end.false k.copy.ensures.0
-    k.copy.ensures.1
+    put-copied (text_of c.args.neg c.args.magnitude c.args.frac) c.args.out.now c.fill-span.ensures c.if-out-end.false
+    c.copy_from_slice.ensures.after

@@ -24,39 +24,39 @@ returns-in_default c =
       count = count_none a.file.now a.room (length a.taps.now) c.check-checked.ensures c.in_default.not-Done;
     }
 
-pub store-requires-clause-file_len_bound : goal.store-requires-clause-file_len_bound
-store-requires-clause-file_len_bound c =
+pub store-requires-clause-short_file : goal.store-requires-clause-short_file
+store-requires-clause-short_file c =
     let a = c.args in
     let k = known a.file.now a.room a.taps.now c.check-checked.ensures c.in-Done.is in
     k.room.short
 
-pub store-requires-clause-file_in_bounds : goal.store-requires-clause-file_in_bounds
-store-requires-clause-file_in_bounds c =
+pub store-requires-clause-lines_room : goal.store-requires-clause-lines_room
+store-requires-clause-lines_room c =
     let a = c.args in
     let k = known a.file.now a.room a.taps.now c.check-checked.ensures c.in-Done.is in
     k.room.few
 
-pub store-requires-clause-file_in_bounds_2 : goal.store-requires-clause-file_in_bounds_2
-store-requires-clause-file_in_bounds_2 c =
+pub store-requires-clause-raws_room : goal.store-requires-clause-raws_room
+store-requires-clause-raws_room c =
     let a = c.args in
     let k = known a.file.now a.room a.taps.now c.check-checked.ensures c.in-Done.is in
     k.room.few
 
-pub store-requires-clause-file_in_bounds_3 : goal.store-requires-clause-file_in_bounds_3
-store-requires-clause-file_in_bounds_3 c =
+pub store-requires-clause-answers_room : goal.store-requires-clause-answers_room
+store-requires-clause-answers_room c =
     let a = c.args in
     let k = known a.file.now a.room a.taps.now c.check-checked.ensures c.in-Done.is in
     k.room.few
 
-pub judge-judged-requires-clause-values_in_bounds : goal.judge-judged-requires-clause-values_in_bounds
-judge-judged-requires-clause-values_in_bounds c =
+pub judge-judged-requires-clause-lines_room : goal.judge-judged-requires-clause-lines_room
+judge-judged-requires-clause-lines_room c =
     let a = c.args in
     let k = known a.file.now a.room a.taps.now c.check-checked.ensures c.in-Done.is in
     let long = over-long line_number (values_of a.file.now) zero-places in
     omega (arith, k.count, ap length c.store.ensures.lines_are, long)
 
-pub judge-judged-requires-clause-values_in_bounds_2 : goal.judge-judged-requires-clause-values_in_bounds_2
-judge-judged-requires-clause-values_in_bounds_2 c =
+pub judge-judged-requires-clause-answers_room : goal.judge-judged-requires-clause-answers_room
+judge-judged-requires-clause-answers_room c =
     let a = c.args in
     let k = known a.file.now a.room a.taps.now c.check-checked.ensures c.in-Done.is in
     let long = over-long number_at (values_of a.file.now) zero-places in
@@ -73,8 +73,8 @@ returns-in_default-judged c =
       count = count-some a.file.now a.room (length a.taps.now) k.count k.none;
     }
 
-pub keep-requires-clause-values_in_bounds : goal.keep-requires-clause-values_in_bounds
-keep-requires-clause-values_in_bounds c =
+pub keep-requires-clause-raws_room : goal.keep-requires-clause-raws_room
+keep-requires-clause-raws_room c =
     let a = c.args in
     let k = known a.file.now a.room a.taps.now c.check-checked.ensures c.in-Done.is in
     let same =
@@ -82,8 +82,8 @@ keep-requires-clause-values_in_bounds c =
     c.judge-judged.ensures c.in-Done-judged.is in
     omega (arith, same, ap length c.store.ensures.raws-are, over-long raw_at (values_of a.file.now) signed-zeros)
 
-pub keep-requires-clause-values_in_bounds_2 : goal.keep-requires-clause-values_in_bounds_2
-keep-requires-clause-values_in_bounds_2 c =
+pub keep-requires-clause-taps_room : goal.keep-requires-clause-taps_room
+keep-requires-clause-taps_room c =
     let a = c.args in
     let k = known a.file.now a.room a.taps.now c.check-checked.ensures c.in-Done.is in
     let same =

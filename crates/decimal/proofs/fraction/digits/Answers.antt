@@ -3,12 +3,12 @@
 -- Assumes nothing.
 use mathlib.Core.Path.{◌≡◌, sym, ap, ◌∙◌, subst}
 use mathlib.Core.List.{◌++◌, map, append-nil}
-use Prim.Native.Nat.{ℕ, ◌+◌, ◌-◌, ◌%◌, ◌≤◌, ◌<◌, ◌^◌}
+use Prim.Native.Nat.{ℕ, ◌+◌, ◌-◌, ◌%◌, ◌<◌, ◌^◌}
 use native.Mathlib.Omega.{arith}
 use lib.Dec.{lit<}
-use lib.ListN.{length, take, set, replicate, length-set}
+use lib.ListN.{take, set, replicate, length-set}
 use Rattle.decimal.specs.Meaning.{byte_of, fraction_by}
-use Rattle.decimal.specs.Layout.{point, first, places, Ends, spare_of}
+use Rattle.decimal.specs.Layout.{point, first, Ends, spare_of}
 use Rattle.decimal.proofs.Parts.{word_none, word_some}
 use Rattle.decimal.proofs.Steps.{pair_step, ends-pair, spare-none, spare-most, fraction-stop, ends_more}
 use Rattle.decimal.proofs.fraction.digits.Goals as goal

@@ -1,16 +1,12 @@
 -- `fraction::digits` meets its contract. The invariant: what is written, before the digits of what is left, is the whole text, but for
 -- the zeros to spare; and the digits that are left to write are enough for what is left. The measure is how many those are at most.
 -- Assumes nothing.
-use mathlib.Core.Path.{◌≡◌, sym, ap, ◌∙◌, subst}
-use mathlib.Core.List.{◌++◌, map, append-nil}
-use Prim.Native.Nat.{ℕ, ◌+◌, ◌-◌, ◌%◌, ◌≤◌, ◌<◌, ◌^◌}
-use native.Mathlib.Omega.{arith}
-use lib.Dec.{lit<}
-use lib.ListN.{length, take, set, replicate, length-set}
+use mathlib.Core.Path.{◌≡◌}
+use mathlib.Core.List.{◌++◌, map}
+use Prim.Native.Nat.{◌+◌, ◌-◌, ◌≤◌, ◌<◌, ◌^◌}
+use lib.ListN.{length, take, replicate}
 use Rattle.decimal.specs.Meaning.{byte_of, fraction_by}
-use Rattle.decimal.specs.Layout.{point, first, places, Ends, spare_of}
-use Rattle.decimal.proofs.Parts.{word_none, word_some}
-use Rattle.decimal.proofs.Steps.{pair_step, ends-pair, spare-none, spare-most, fraction-stop, ends_more}
+use Rattle.decimal.specs.Layout.{first, places, Ends}
 use Rattle.decimal.proofs.fraction.digits.Given as goal
 
 abbrev pub invariant-loop-rest : goal.invariant-loop-rest

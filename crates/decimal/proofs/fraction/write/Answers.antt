@@ -15,7 +15,7 @@ digits-requires c =
 pub returns : goal.returns
 returns c =
     let r = c.digits.result in
-    let left = c.digits.new.0 in
+    let left = c.digits.new.text in
     let s = c in
     let text = s.args.text.now in
     subst (λ (t : List ℕ). (r ≡ point + length t) × (r ≤ places) × (take r left ≡ take point text ++ t) × (length left ≡ places))

@@ -1,14 +1,11 @@
 -- `whole::digits` meets its contract. The invariant: the digits of what is left, before what is written, are those of n before the
 -- rest of the layout; each digit written takes one place. The measure is what is left. Assumes nothing.
-use mathlib.Core.Path.{◌≡◌, refl, ap, ◌∙◌}
-use mathlib.Core.List.{[], ◌∷◌, ◌++◌}
-use Prim.Native.Nat.{◌+◌, ◌-◌, ◌/◌, ◌%◌, ◌≤◌, ◌<◌, ◌^◌}
-use native.Mathlib.Omega.{arith}
-use lib.ListN.{length, drop, length-set, length-append}
-use Rattle.decimal.specs.Meaning.{byte_of, whole_text}
+use mathlib.Core.Path.{◌≡◌}
+use mathlib.Core.List.{◌++◌}
+use Prim.Native.Nat.{◌+◌, ◌≤◌, ◌<◌, ◌^◌}
+use lib.ListN.{length, drop}
+use Rattle.decimal.specs.Meaning.{whole_text}
 use Rattle.decimal.specs.Layout.{point, places}
-use Rattle.decimal.specs.Digits.{whole-text-last, whole-text-more, whole-text-some, whole_word}
-use Rattle.decimal.proofs.Steps.{whole-step, whole-stop}
 use Rattle.decimal.proofs.whole.digits.Given as goal
 
 abbrev pub invariant-loop-rest : goal.invariant-loop-rest

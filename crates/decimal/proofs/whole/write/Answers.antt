@@ -10,7 +10,7 @@ use Rattle.decimal.proofs.whole.write.Goals as goal
 pub returns : goal.returns
 returns c =
     let r = c.digits.result in
-    let left = c.digits.new.0 in
+    let left = c.digits.new.text in
     let text = c.args.text.now in
     subst (λ (q : ℕ). (r + length (whole_text q) ≡ point) × (drop r left ≡ whole_text q ++ drop point text) × (length left ≡ places)) c.part.ensures
     c.digits.ensures

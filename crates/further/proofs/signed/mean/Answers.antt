@@ -1,0 +1,15 @@
+-- `further::signed::mean` meets its promise: the mean, settled. Assumes nothing.
+use mathlib.Core.Path.{◌∙◌}
+use mir.Syntax.{w64}
+use mir.Facts.{to_z-of_z}
+use lib.IntN.{ℤ, ◌+ℤ◌}
+use Rattle.laws.specs.Floor.{floor}
+use Rattle.exact.specs.Signs.{via₂}
+use Rattle.exact.specs.Settled.{settled-signed}
+use Rattle.further.proofs.signed.mean.Goals as goal
+
+pub returns : goal.returns
+returns c =
+    settled-signed _ _ _ (via₂ (λ (x y : ℤ). floor (x +ℤ y) 2)
+    (c.of_signed.ensures ∙ to_z-of_z {w = w64} c.ranges.a)
+    (c.of_signed-2.ensures ∙ to_z-of_z {w = w64} c.ranges.b) c.mean-x.ensures) c.settle.ensures

@@ -1,0 +1,33 @@
+-- `text::unsigned::read` meets its promise: the early refusals, then what the scanner found. Assumes nothing.
+use mathlib.Core.Path.{◌∙◌, sym, ap}
+use Rattle.format.specs.Meaning.{unsigned, unsigned_answer}
+use Rattle.format.specs.Answer.{refused-unsigned}
+use Rattle.text.specs.Read.{plain-fine, plain-sane, plain-reads, plain-refused}
+use lib.ListN.{length}
+use Rattle.text.proofs.unsigned.read.Goals as goal
+
+pub plain-requires : goal.plain-requires
+plain-requires c =
+    let a = c.args in
+    (plain-fine a.width a.frac a.radix (length a.text.now) (sym c.plain-refused.ensures ∙ c.if-refused-eq0.true)).1
+
+pub answered-requires : goal.answered-requires
+answered-requires c =
+    let a = c.args in
+    let e = c.plain-refused.ensures in
+    let z = c.if-refused-eq0.true in (
+      (plain-fine a.width a.frac a.radix (length a.text.now) (sym e ∙ z)).0.width,
+      plain-sane unsigned a.width a.frac a.text.now a.radix e c.plain.result z c.plain.ensures,
+    )
+
+pub returns-then-refused-eq0 : goal.returns-then-refused-eq0
+returns-then-refused-eq0 c =
+    let a = c.args in
+    c.answered.ensures
+    ∙ ap unsigned_answer (plain-reads unsigned a.width a.frac a.text.now a.radix c.plain-refused.ensures a.manner
+    c.plain.result c.if-refused-eq0.true c.plain.ensures)
+
+pub returns : goal.returns
+returns c =
+    let a = c.args in
+    refused-unsigned (plain-refused unsigned a.width a.frac a.text.now a.radix c.plain-refused.ensures a.manner c.if-refused-eq0.false)
