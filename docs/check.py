@@ -18,12 +18,12 @@ ROOT = Path(__file__).resolve().parent.parent
 CRATES = ROOT / "crates"
 INDEX = (ROOT / "docs/PROMISES.md").read_text()
 PAGES = {page.stem: page.read_text() for page in sorted((ROOT / "docs/promises").glob("*.md"))}
-CLAUSE = re.compile(r"^ +ensures(?: \w+)? \{(.*?)\}\s*(?=^ +(?:ensures|requires|decreases)\b|\Z)", re.M | re.S)
 FUNCTION = re.compile(r'^pub (?:extern "C" )?fn (\w+)(.*?)(?:^| )\{$', re.M | re.S)
+CLAUSE = re.compile(r"\b(?:requires|ensures)\b[^{]*\{")
 INNER = re.compile(r"^pub\(crate\) fn (\w+)(.*?)(?:^| )\{$", re.M | re.S)
 PATH = re.compile(r"(?<![\w/.])(?:(?:crates|oracle|docs|include|tests|bindings|specs|proofs|must-fail)/[\w./-]*\w|\w+\.antt)")
 DECLARED = re.compile(r"^\s*(?:(?:pub|unfoldable|abbrev|opaque|record|data) +)*([^\s:]+)", re.M)
-SIGNS = (("S(?=[A-Z])", "Signed", "Unsigned"), ("(?<=_)S(?![a-zA-Z])", "signed", "unsigned"), ("(?:^|(?<=[-_]))S(?=[-_])", "signed", "unsigned"))
+SIGNS = (("S(?=[A-Z])", "Signed", "Unsigned"), ("(?<=_)S(?![a-zA-Z])", "signed", "unsigned"), ("(?:^|(?<=-))S(?=-)", "signed", "unsigned"))
 seen = []
 
 
@@ -49,6 +49,18 @@ def words(text):
     return found | {one.split("::", 1)[1] for one in found if one.count("::") == 2}
 
 
+def clauses(contract, kind):
+    """The texts of the clauses of a kind, with a name or without; in a clause braces are in pairs."""
+    found = []
+    for start in [one.end() for one in CLAUSE.finditer(contract) if one[0].startswith(kind)]:
+        depth, end = 1, start
+        while depth:
+            depth += {"{": 1, "}": -1}.get(contract[end], 0)
+            end += 1
+        found.append(contract[start : end - 1].strip())
+    return found
+
+
 def public(crate):
     """(module, name, contract) of each function that another crate, or C, can call."""
     lib = (crate / "src/lib.rt").read_text()
@@ -71,7 +83,7 @@ def functions(crate, row):
     for module, name, contract in public(crate):
         full = "::".join(filter(None, (crate.name, module, name)))
         see(named(module, name, row, row), f"docs/PROMISES.md: {full} is not in its row")
-        ensures = " ".join(CLAUSE.findall(contract))
+        ensures = " ".join(clauses(contract, "ensures"))
         promise = [one for one in re.findall(r"\b[A-Z]\w+", ensures) if one not in ("Signed", "Unsigned", "File")][:1]
         if "no promise" not in row and "mathematics only" not in row:
             see(named(module, name, table, pages), f"docs/promises: {full} is in no table of its page")
@@ -135,8 +147,8 @@ def settled(crate, row):
         said = [one.get("One outcome", "") for one in table_rows(page) if named(module, name, one.get("Function", one.get("Export", "")), page)]
         laws = [law for span in spans(said[0]) for law in spelled(span)] if said else []
         if said and said[0].startswith("an equation"):
-            ensures = " ".join(CLAUSE.findall(contract)).strip()
-            see(re.match(r"(result|result\.now|\w+\.new) ≡ ", ensures), f"docs/promises/{crate.name}.md: the contract of {full} is no equation")
+            ensures = clauses(contract, "ensures")
+            see(ensures and all(re.match(r"result(\.now)? ≡ |\w+\.new ≡ ", one) for one in ensures), f"docs/promises/{crate.name}.md: the contract of {full} is no equation")
         else:
             opened = said and said[0].startswith("open:")
             see((laws or opened) and all(law in declared for law in laws), f"docs/promises/{crate.name}.md: what settles the answer of {full}? ({said})")
@@ -144,7 +156,7 @@ def settled(crate, row):
         see(not said or not said[0].startswith("open") or f"`{full}`" in open_ones or f"`{crate.name}`" in open_ones, f"docs/PROMISES.md: {full} leaves something open and is no exception")
 
 
-USE = re.compile(r"^(?:ghost )?use Rattle\.(\w+)\.specs\.([\w.-]+)\.\{([^}]*)\}", re.M)
+USE = re.compile(r"^(?:ghost )?use Rattle\.(?!std\.)(\w+)\.specs\.([\w.-]+)\.\{([^}]*)\}", re.M)
 DEFINED = re.compile(r"^ *(?:(?:unfoldable|abbrev) pub|pub (?:record|data)) +([^\s:({]+)", re.M)
 
 
@@ -206,10 +218,10 @@ def one_name():
 
 
 def names(page, text, crate):
-    """Promises, theorems and `unique` are declared in the crate's specs, or in specs that the page cites; meanings occur there."""
+    """Promises, theorems and `unique` are declared in the crate's specs, or in specs that the page cites, theorems also in its lemma files; meanings occur there."""
     cited = [ROOT / path for path in set(re.findall(r"crates/\w+/specs/\w+\.antt", text)) if (ROOT / path).exists()]
     specs = "\n".join(file.read_text() for file in [*crate.glob("specs/*.antt"), *cited])
-    declared, all_words = set(DECLARED.findall(specs)), set(re.findall(r"[\w·-]+", specs))
+    declared, all_words = set(DECLARED.findall(specs)), set(re.findall(r"[\w'-]+", specs))
     for head, cell in cells(text):
         for span in spans(cell) if head in ("Promise", "Theorem", "One outcome", "Meaning") else []:
             first = re.match(r"[A-Z]\w+" if head == "Promise" else r"[a-zA-Z][\w-]+(?!\S*\.antt)", span)

@@ -14,7 +14,8 @@ use Rattle.format.specs.declared.Manner.{Manner}
 use Rattle.format.specs.declared.Manner.TheVariants.{Saturating, Wrapping}
 use Rattle.format.specs.Meaning.{Sign, fault_of, settle, done, highest, hold, wrap}
 use Rattle.format.specs.Settle.{unless-none}
-use Rattle.format.specs.Theorems.{InRange, Congruent, wrap-congruent, sides, hold-in, settle-fits}
+use Rattle.format.specs.Theorems.{InRange, Congruent, wrap-congruent}
+use Rattle.format.proofs.Theorems.{sides, hold-in, settle-fits}
 use Rattle.exact.specs.Theorems.{wrap-same}
 use Rattle.arith.specs.Meaning.{add_of, neg_of}
 

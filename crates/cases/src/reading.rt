@@ -1,117 +1,141 @@
 // Document 01's cases of reading, and two that it rules out.
 use format::Manner;
+use std::io;
 
-pub fn plain() {
-    four_fraction_bits();
-    no_fraction_bits();
-    taps();
-    ties();
+pub fn plain(rt: &impl Print) -> io::Result<()> {
+    four_fraction_bits(rt)?;
+    no_fraction_bits(rt)?;
+    taps(rt)?;
+    ties(rt)
 }
 
-fn four_fraction_bits() {
+fn four_fraction_bits(rt: &impl Print) -> io::Result<()> {
     shown::signed(
+        rt,
         b"W 8 signed F 4, 7.96875, strict",
         text::signed::read(b"7.96875", 8, 4, 10, Manner::Strict),
-    );
+    )?;
     shown::signed(
+        rt,
         b"W 8 signed F 4, -8.03125, strict",
         text::signed::read(b"-8.03125", 8, 4, 10, Manner::Strict),
-    );
+    )?;
     shown::signed(
+        rt,
         b"W 8 signed F 4, 0.03125, strict",
         text::signed::read(b"0.03125", 8, 4, 10, Manner::Strict),
-    );
+    )?;
     shown::signed(
+        rt,
         b"W 8 signed F 4, 0.09375, strict",
         text::signed::read(b"0.09375", 8, 4, 10, Manner::Strict),
-    );
+    )
 }
 
-fn no_fraction_bits() {
+fn no_fraction_bits(rt: &impl Print) -> io::Result<()> {
     shown::signed(
+        rt,
         b"W 8 signed F 0, 127.5, strict",
         text::signed::read(b"127.5", 8, 0, 10, Manner::Strict),
-    );
+    )?;
     shown::signed(
+        rt,
         b"W 8 signed F 0, 127.5, wrapping",
         text::signed::read(b"127.5", 8, 0, 10, Manner::Wrapping),
-    );
+    )?;
     shown::signed(
+        rt,
         b"W 8 signed F 0, 127.5, saturating",
         text::signed::read(b"127.5", 8, 0, 10, Manner::Saturating),
-    );
+    )?;
     shown::signed(
+        rt,
         b"W 8 signed F 0, -128.5, strict",
         text::signed::read(b"-128.5", 8, 0, 10, Manner::Strict),
-    );
+    )?;
     shown::unsigned(
+        rt,
         b"W 8 unsigned F 0, -0.4, strict",
         text::unsigned::read(b"-0.4", 8, 0, 10, Manner::Strict),
-    );
+    )?;
     shown::unsigned(
+        rt,
         b"W 8 unsigned F 0, -0.6, strict",
         text::unsigned::read(b"-0.6", 8, 0, 10, Manner::Strict),
-    );
+    )
 }
 
-fn taps() {
+fn taps(rt: &impl Print) -> io::Result<()> {
     shown::signed(
+        rt,
         b"I1F15, -1, strict",
         text::signed::read(b"-1", 16, 15, 10, Manner::Strict),
-    );
+    )?;
     shown::signed(
+        rt,
         b"I1F15, 1, strict",
         text::signed::read(b"1", 16, 15, 10, Manner::Strict),
-    );
+    )?;
     shown::signed(
+        rt,
         b"I1F15, 0.99998, strict",
         text::signed::read(b"0.99998", 16, 15, 10, Manner::Strict),
-    );
+    )?;
     shown::signed(
+        rt,
         b"I1F15, 0.99999, strict",
         text::signed::read(b"0.99999", 16, 15, 10, Manner::Strict),
-    );
+    )
 }
 
 // The odd bit is in the integer.
-fn ties() {
+fn ties(rt: &impl Print) -> io::Result<()> {
     shown::signed(
+        rt,
         b"W 8 signed F 0, 1.5, strict",
         text::signed::read(b"1.5", 8, 0, 10, Manner::Strict),
-    );
+    )?;
     shown::signed(
+        rt,
         b"W 8 signed F 0, 2.5, strict",
         text::signed::read(b"2.5", 8, 0, 10, Manner::Strict),
-    );
+    )
 }
 
-pub fn literals() {
+pub fn literals(rt: &impl Print) -> io::Result<()> {
     shown::signed(
+        rt,
         b"I1F15, literal +1",
         text::signed::read_literal(b"+1", 16, 15),
-    );
+    )?;
     shown::signed(
+        rt,
         b"I1F15, literal 0x-1",
         text::signed::read_literal(b"0x-1", 16, 15),
-    );
+    )?;
     shown::signed(
+        rt,
         b"I1F15, empty literal",
         text::signed::read_literal(b"", 16, 15),
-    );
+    )?;
     shown::signed(
+        rt,
         b"I1F15, literal -",
         text::signed::read_literal(b"-", 16, 15),
-    );
+    )?;
     shown::unsigned(
+        rt,
         b"W 16 unsigned F 15, literal -",
         text::unsigned::read_literal(b"-", 16, 15),
-    );
+    )?;
     shown::signed(
+        rt,
         b"I1F15, literal 0X1",
         text::signed::read_literal(b"0X1", 16, 15),
-    );
+    )?;
     shown::signed(
+        rt,
         b"I1F15, literal -0x_0.8",
         text::signed::read_literal(b"-0x_0.8", 16, 15),
-    );
+    )
 }

@@ -1,3 +1,4 @@
 -- What the proofs of more than one function use.
 mod Drops
 mod Settled
+pub mod Theorems

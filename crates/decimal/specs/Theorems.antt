@@ -20,10 +20,11 @@ use Rattle.laws.specs.Nearest.{nearest_even, nearest-exact}
 use Rattle.format.specs.declared.Manner.{Manner}
 use Rattle.format.specs.declared.UnsignedAnswer.TheVariants.{Done}
 use Rattle.format.specs.Meaning.{Sign, done, refused, fault_of, settle, with_sign, unsigned_answer, guarded}
-use Rattle.format.specs.Theorems.{InRange, limit, in-fits, settle-fits}
+use Rattle.format.specs.Theorems.{InRange, limit, in-fits}
+use Rattle.format.proofs.Theorems.{settle-fits}
 use Rattle.format.specs.Fault.{fault-free, width-bounds}
-use Rattle.format.specs.Place.{fits-place}
-use Rattle.format.specs.Far.{limit-word}
+use Rattle.format.proofs.Limits.{fits-place}
+use Rattle.format.proofs.Far.{limit-word}
 use Rattle.digits.specs.Meaning.{digits_of}
 use Rattle.grammar.specs.Meaning.{digit_of, Written, Reading, number, unread, plain_reading, num, den, raw_of, is_radix, read_of, blank}
 use Rattle.grammar.specs.Automaton.{is_digit, NumberPart, whole, fraction, Seen, nothing, sign, digit, at, Error}

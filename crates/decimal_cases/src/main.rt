@@ -1,121 +1,117 @@
 // Writes document 01's case, the ends of every format, every raw of W = 8 with every F, and buffers of several lengths.
 // The file `stdout` beside src/ is computed by oracle/decimal_cases.py, not by this program.
+#![tactic(auto)]
+
 ghost use Rattle.std.specs.Prelude.{◌≤◌, ◌<◌};
 
 use format::UnsignedAnswer;
+use std::io;
 
-const OUT: i32 = 1;
-
-fn main() {
-    signed_line(1, 16, 15);
-    ends(8, -128, 127, 255);
-    ends(16, -32768, 32767, 65535);
-    ends(32, -2147483648, 2147483647, 4294967295);
+fn main(rt: HostRuntime) -> io::Result<()> {
+    signed_line(&rt, 1, 16, 15)?;
+    ends(&rt, 8, -128, 127, 255)?;
+    ends(&rt, 16, -32768, 32767, 65535)?;
+    ends(&rt, 32, -2147483648, 2147483647, 4294967295)?;
     ends(
+        &rt,
         64,
         -9223372036854775808,
         9223372036854775807,
         18446744073709551615,
-    );
-    every_frac();
-    buffers();
-    refusals();
+    )?;
+    every_frac(&rt)?;
+    buffers(&rt)?;
+    refusals(&rt)
 }
 
 // The ends of the formats of one width.
-fn ends(width: u32, low: i64, high: i64, top: u64)
+fn ends(rt: &impl Print, width: u32, low: i64, high: i64, top: u64) -> io::Result<()>
     requires { width ≤ 64 }
 {
-    let mut frac: u32 = 0;
-    while frac <= width {
-        signed_line(low, width, frac);
-        signed_line(high, width, frac);
-        unsigned_line(top, width, frac);
-        frac += 1;
+    for frac in 0..=width {
+        signed_line(rt, low, width, frac)?;
+        signed_line(rt, high, width, frac)?;
+        unsigned_line(rt, top, width, frac)?;
     }
+    Ok(())
 }
 
 // Every raw of W = 8, unsigned and then signed.
-fn every_frac() {
-    let mut frac: u32 = 0;
-    while frac <= 8 {
-        every_raw(frac);
-        frac += 1;
+fn every_frac(rt: &impl Print) -> io::Result<()> {
+    for frac in 0..=8 {
+        every_raw(rt, frac)?;
     }
+    Ok(())
 }
 
-fn every_raw(frac: u32) {
-    let mut n: u64 = 0;
-    while n < 256 {
-        unsigned_line(n, 8, frac);
-        byte_line(n, frac);
-        n += 1;
+fn every_raw(rt: &impl Print, frac: u32) -> io::Result<()> {
+    for n in 0..256 {
+        unsigned_line(rt, n, 8, frac)?;
+        byte_line(rt, n, frac)?;
     }
+    Ok(())
 }
 
 // The byte n as a signed raw.
-fn byte_line(n: u64, frac: u32)
+fn byte_line(rt: &impl Print, n: u64, frac: u32) -> io::Result<()>
     requires { n < 256 }
 {
     if n < 128 {
-        signed_line(format::signed::with_sign(false, n), 8, frac);
+        signed_line(rt, format::signed::with_sign(false, n), 8, frac)
     } else {
-        signed_line(format::signed::with_sign(true, 256 - n), 8, frac);
+        signed_line(rt, format::signed::with_sign(true, 256 - n), 8, frac)
     }
 }
 
-fn signed_line(raw: i64, width: u32, frac: u32) {
+fn signed_line(rt: &impl Print, raw: i64, width: u32, frac: u32) -> io::Result<()> {
     let mut text = [0u8; 67];
     let answer = decimal::signed::write(raw, width, frac, &mut text[..]);
-    show(answer, &text[..]);
+    show(rt, answer, &text[..])
 }
 
-fn unsigned_line(raw: u64, width: u32, frac: u32) {
+fn unsigned_line(rt: &impl Print, raw: u64, width: u32, frac: u32) -> io::Result<()> {
     let mut text = [0u8; 67];
     let answer = decimal::unsigned::write(raw, width, frac, &mut text[..]);
-    show(answer, &text[..]);
+    show(rt, answer, &text[..])
 }
 
 // Document 01's case into buffers with room to spare, of exactly its length, one byte less, and none.
-fn buffers() {
+fn buffers(rt: &impl Print) -> io::Result<()> {
     let mut spare = [42u8; 20];
-    into(&mut spare[..]);
+    into(rt, &mut spare[..])?;
     let mut exact = [42u8; 17];
-    into(&mut exact[..]);
+    into(rt, &mut exact[..])?;
     let mut less = [42u8; 16];
-    into(&mut less[..]);
-    into(&mut less[..0]);
+    into(rt, &mut less[..])?;
+    into(rt, &mut less[..0])
 }
 
 // The text that was written, or the refusal, and the buffer after it.
-fn into(out: &mut [u8]) {
+fn into(rt: &impl Print, out: &mut [u8]) -> io::Result<()> {
     let answer = decimal::signed::write(1, 16, 15, out);
-    show(answer, out);
-    io::write_all(OUT, out);
-    io::write_all(OUT, b"\n");
+    show(rt, answer, out)?;
+    rt.write_all(out)?;
+    rt.println("")
 }
 
 // 1, then 2, then 5.
-fn refusals() {
+fn refusals(rt: &impl Print) -> io::Result<()> {
     let mut none = [0u8; 1];
-    show(decimal::signed::write(1, 15, 16, &mut none[..0]), b"");
-    show(decimal::signed::write(1, 16, 17, &mut none[..0]), b"");
-    show(decimal::unsigned::write(1, 16, 16, &mut none[..0]), b"");
+    show(rt, decimal::signed::write(1, 15, 16, &mut none[..0]), b"")?;
+    show(rt, decimal::signed::write(1, 16, 17, &mut none[..0]), b"")?;
+    show(rt, decimal::unsigned::write(1, 16, 16, &mut none[..0]), b"")
 }
 
 // The bytes that were written, or the refusal.
-fn show(answer: UnsignedAnswer, text: &[u8]) {
+fn show(rt: &impl Print, answer: UnsignedAnswer, text: &[u8]) -> io::Result<()> {
     match answer {
         UnsignedAnswer::Done { raw, flag: _ } => {
             let n = raw as usize;
             if n <= text.len() {
-                io::write_all(OUT, &text[..n]);
+                rt.write_all(&text[..n])?;
             }
         }
-        UnsignedAnswer::Refused(number) => {
-            io::write_all(OUT, b"refused ");
-            io::print_decimal(OUT, number as u64);
-        }
+        UnsignedAnswer::Refused(number) => print!(rt; "refused {number}")?,
     }
-    io::write_all(OUT, b"\n");
+    rt.println("")
 }

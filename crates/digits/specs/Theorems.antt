@@ -70,10 +70,6 @@ pub upto-stands : (t : List ℕ) (n : ℕ)
     → take (length (upto_of t n)) (drop (length (unds_front (head_of t n))) t) ≡ upto_of t n
 upto-stands t n = part-stands t (upto_part t n) (upto-whole t n)
 
-pub from-stands : (t : List ℕ) (n : ℕ)
-    → take (length (from_of t n)) (drop (length (head_of t n ++ unds_front (tail_of t n))) t) ≡ from_of t n
-from-stands t n = part-stands t (from_part t n) (from-whole t n)
-
 -- what `new` drops are `_`
 unds-are : (t : List ℕ) → take_while is_und t ≡ replicate (length (take_while is_und t)) 95
 unfolding is_und

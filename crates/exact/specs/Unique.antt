@@ -1,8 +1,8 @@
 -- What the promises of this crate settle, and those of the crates on it that answer with an `Exact`. A promise is an equation between numbers, so two
 -- answers that meet it stand for one number. Then they have the same words, and the same sign too unless the number is 0: 0 and -0 are one number.
 -- Assumes nothing.
-use Rattle.std.specs.Prelude.{◌≡◌, refl, ◌⊎◌, Bool, true, false, ℕ, ◌+◌, ◌*◌, ◌^◌, ◌<◌, ℤ, nat_abs}
-use Rattle.std.proofs.Common.{sym, ap, ◌∙◌, inl, inr, arith}
+use Rattle.std.specs.Prelude.{◌≡◌, refl, ◌⊎◌, Bool, true, false, ℕ, ◌+◌, ◌*◌, ◌^◌, nat_abs}
+use Rattle.std.proofs.Common.{sym, ap, ◌∙◌, inl, inr}
 use Rattle.laws.specs.Signed.{signed as kit}
 use Rattle.format.specs.Meaning.{with_sign}
 use Rattle.format.specs.Place.{sign-out}

@@ -11,8 +11,8 @@ use Rattle.laws.specs.Bound.{abs-out}
 use Rattle.laws.specs.Diff.{up, dn, add-out, orders}
 use Rattle.laws.specs.Floor.{floor-out}
 use Rattle.laws.specs.Signed.{signed}
-use Rattle.filter.specs.Meaning.{most_taps, rounded}
-use Rattle.filter.specs.Rounding.{Near, rounded-is, near-unique}
+use Rattle.filter.specs.Meaning.{most_taps}
+use Rattle.filter.specs.Rounding.{Near}
 
 module _ (p : ℤ) where
   abbrev whole : ℤ
@@ -40,7 +40,7 @@ module _ (p : ℤ) where
       go : (k : ℕ) → up whole + dn whole ≡ k * 2 + 1 → nat_abs lowered % 2 ≡ 0
       go k f = omega (arith, abs-out lowered)
 
-  lowered-near : Near p lowered
+  pub lowered-near : Near p lowered
   lowered-near =
       let f = floor-out raised (2 ^ 15) (lit< tt) in
       let g = floor-out p (2 ^ 15) (lit< tt) in
@@ -50,9 +50,6 @@ module _ (p : ℤ) where
         tie-below = λ t. after-even (omega (orders, raised-out)) (omega (arith, raised-out));
         tie-above = λ t. after-odd (omega (arith, raised-out)) (omega (arith, raised-out));
       }
-
-pub lowered_is : (p : ℤ) → lowered p ≡ rounded p
-lowered_is p = near-unique (lowered-near p) (rounded-is p)
 
 -- in the machine: whether a number is odd is its last bit, and neither sum leaves the word
 odd-bit : (z : ℤ) → SFits w64 z → bit_and (of_z w64 z) 1 ≡ nat_abs z % 2

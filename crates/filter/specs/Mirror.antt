@@ -1,31 +1,18 @@
 -- Samples the other way up: every sum, level and history is the other way up too, and so is an output but at -32768, which has no counterpart.
 -- Assumes nothing.
-use Rattle.std.specs.Prelude.{◌≡◌, refl, ◌↔◌, ◌⊎◌, false, List, [], ◌∷◌, map, ℕ, zero, suc, ℤ, ◌*ℤ◌, take, ◌≤ℤ◌, ◌<ℤ◌}
+use Rattle.std.specs.Prelude.{◌≡◌, refl, ◌↔◌, ◌⊎◌, false, List, [], ◌∷◌, map, ℕ, zero, suc, ℤ, take, ◌≤ℤ◌, ◌<ℤ◌}
 use Rattle.std.proofs.Common.{sym, ◌∙◌, ap, inl, inr}
 use Rattle.std.proofs.Math.IntN.{negsuc, neg_ℤ}
 use Rattle.laws.specs.Diff.{up_neg, dn-neg}
 use Rattle.laws.specs.Order.{<ℤ-or-≥ℤ}
-use Rattle.laws.specs.Ring.{*ℤ-negʳ, +ℤ-neg}
 use Rattle.laws.specs.Signed.{signed as kit}
 use Rattle.laws.specs.Tests.{lt-lt_z}
 use Rattle.format.specs.Meaning.{signed, lowest, highest}
-use Rattle.filter.specs.Meaning.{most_taps, next, sum_of, held, clips, level_of}
+use Rattle.filter.specs.Meaning.{most_taps, next, held, clips}
 use Rattle.filter.specs.Range.{Sample, below-clips, sample-keeps, held-sample, unclipped}
-use Rattle.filter.specs.Rounding.{rounded-neg}
 
 abbrev pub mirror : List ℤ → List ℤ
 mirror xs = map neg_ℤ xs
-
-sum-mirror : (taps h : List ℤ) → sum_of taps (mirror h) ≡ neg_ℤ (sum_of taps h)
-unfolding sum_of
-sum-mirror [] h = refl
-sum-mirror (t ∷ ts) [] = refl
-sum-mirror (t ∷ ts) (x ∷ h) = rw (sum-mirror ts h, *ℤ-negʳ t x) (+ℤ-neg (t *ℤ x) (sum_of ts h))
-
--- the level, of any samples
-pub level-mirror : (taps h : List ℤ) → level_of taps (mirror h) ≡ neg_ℤ (level_of taps h)
-unfolding level_of
-level-mirror taps h = rw (sum-mirror taps h) (rounded-neg (sum_of taps h))
 
 take-mirror : (n : ℕ) (xs : List ℤ) → take n (mirror xs) ≡ mirror (take n xs)
 take-mirror zero xs = refl

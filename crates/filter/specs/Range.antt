@@ -8,7 +8,8 @@ use Rattle.std.specs.Int.{w16}
 use Rattle.laws.specs.Signed.{signed as kit}
 use Rattle.laws.specs.Tests.{lt_z-true, lt_z-false}
 use Rattle.format.specs.Meaning.{signed, lowest, highest, fits}
-use Rattle.format.specs.Theorems.{InRange, fits_in, in-fits, unfit-iff, hold-in, hold-low, hold-high, hold-id}
+use Rattle.format.specs.Theorems.{InRange, fits_in, in-fits, unfit-iff}
+use Rattle.format.proofs.Theorems.{hold-in, hold-low, hold-high, hold-id}
 use Rattle.filter.specs.Meaning.{most_taps, next, history_after, held, clips}
 
 -- a raw of I1F15, and a list of them

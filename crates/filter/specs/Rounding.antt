@@ -22,7 +22,7 @@ pub record Near (p q : ℤ) : Type 0 where
 abs-turned : (q : ℤ) → nat_abs (neg_ℤ q) ≡ nat_abs q
 abs-turned q = omega (arith, abs-out q, abs-out (neg_ℤ q), up_neg q, dn-neg q)
 
-near-turned : (p q : ℤ) → Near p q → Near (neg_ℤ p) (neg_ℤ q)
+pub near-turned : (p q : ℤ) → Near p q → Near (neg_ℤ p) (neg_ℤ q)
 near-turned p q r =
     record {
       below = omega (arith, r.above, up_neg p, dn-neg p, up_neg q, dn-neg q);
@@ -61,7 +61,7 @@ neighbours p q e f n = go (nat_abs p / 2) (nat_abs q / 2) (omega (arith, abs-out
     go k l e f = omega arith
 
 -- such numbers keep the order: if q were below p, both would be ties, next to each other, and even
-near-mono : {a b p q : ℤ} → Near a p → Near b q → a ≤ℤ b → p ≤ℤ q
+pub near-mono : {a b p q : ℤ} → Near a p → Near b q → a ≤ℤ b → p ≤ℤ q
 near-mono {a} {b} {p} {q} f g h = pick (<ℤ-or-≥ℤ q p)
   where
     pick : (q <ℤ p) ⊎ (p ≤ℤ q) → p ≤ℤ q
@@ -75,15 +75,9 @@ near-mono {a} {b} {p} {q} f g h = pick (<ℤ-or-≥ℤ q p)
 pub near-unique : {p q r : ℤ} → Near p q → Near p r → q ≡ r
 near-unique {p} f g = ≤ℤ-antisym (near-mono f g (≤ℤ_refl p)) (near-mono g f (≤ℤ_refl p))
 
-pub rounded-mono : {a b : ℤ} → a ≤ℤ b → rounded a ≤ℤ rounded b
-rounded-mono {a} {b} h = near-mono (rounded-is a) (rounded-is b) h
-
 pub rounded-zero : rounded (pos 0) ≡ pos 0
 unfolding rounded with_sign nearest_even nearest_by
 rounded-zero = refl
-
-pub rounded-neg : (p : ℤ) → rounded (neg_ℤ p) ≡ neg_ℤ (rounded p)
-rounded-neg p = near-unique (rounded-is (neg_ℤ p)) (near-turned p (rounded p) (rounded-is p))
 
 -- by distance: half a step at most, even where it is half a step, and no other whole number has both
 module _ (p q : ℤ) where
@@ -93,17 +87,17 @@ module _ (p q : ℤ) where
   gap-out : up gap + (dn p + up q * 2 ^ 15) ≡ (up p + dn q * 2 ^ 15) + dn gap
   gap-out = omega (arith, mul-out q (2 ^ 15), sub_out p (q *ℤ pos (2 ^ 15)))
 
-  near-gap : Near p q → nat_abs gap * 2 ≤ 2 ^ 15
+  pub near-gap : Near p q → nat_abs gap * 2 ≤ 2 ^ 15
   near-gap r = omega (arith, abs-in gap {n = 2 ^ 14} (omega (arith, gap-out, r.below)) (omega (arith, gap-out, r.above)))
 
-  near-tie : Near p q → nat_abs gap * 2 ≡ 2 ^ 15 → nat_abs q % 2 ≡ 0
+  pub near-tie : Near p q → nat_abs gap * 2 ≡ 2 ^ 15 → nat_abs q % 2 ≡ 0
   near-tie r t = go gap gap-out t
     where
       go : (d : ℤ) → up d + (dn p + up q * 2 ^ 15) ≡ (up p + dn q * 2 ^ 15) + dn d → nat_abs d * 2 ≡ 2 ^ 15 → nat_abs q % 2 ≡ 0
       go (pos n) e t = r.tie-below (omega arith)
       go (negsuc n) e t = r.tie-above (omega arith)
 
-  gap-near : nat_abs gap * 2 ≤ 2 ^ 15 → (nat_abs gap * 2 ≡ 2 ^ 15 → nat_abs q % 2 ≡ 0) → Near p q
+  pub gap-near : nat_abs gap * 2 ≤ 2 ^ 15 → (nat_abs gap * 2 ≡ 2 ^ 15 → nat_abs q % 2 ≡ 0) → Near p q
   gap-near h t =
       record {
         below = omega (arith, abs-out gap, gap-out);
@@ -111,13 +105,3 @@ module _ (p q : ℤ) where
         tie-below = λ e. t (omega (arith, abs-out gap, gap-out));
         tie-above = λ e. t (omega (arith, abs-out gap, gap-out));
       }
-
-pub rounded-near : (p : ℤ) → nat_abs (p -ℤ rounded p *ℤ pos (2 ^ 15)) * 2 ≤ 2 ^ 15
-rounded-near p = near-gap p (rounded p) (rounded-is p)
-
-pub rounded-tie : (p : ℤ) → nat_abs (p -ℤ rounded p *ℤ pos (2 ^ 15)) * 2 ≡ 2 ^ 15 → nat_abs (rounded p) % 2 ≡ 0
-rounded-tie p t = near-tie p (rounded p) (rounded-is p) t
-
-pub rounded-only : (p q : ℤ) → nat_abs (p -ℤ q *ℤ pos (2 ^ 15)) * 2 ≤ 2 ^ 15 → (nat_abs (p -ℤ q *ℤ pos (2 ^ 15)) * 2 ≡ 2 ^ 15 → nat_abs q % 2 ≡ 0)
-    → q ≡ rounded p
-rounded-only p q h t = near-unique (gap-near p q h t) (rounded-is p)

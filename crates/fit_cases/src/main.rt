@@ -1,46 +1,49 @@
 // What `fit` prints of good files, of files that clip, and of each refusal: the files of data/, which
 // oracle/fit_cases.py makes with the file `stdout` beside src/.
-fn main() {
-    taken();
-    refused();
-    refused_lines();
-    no_file();
+#![tactic(auto)]
+
+use std::io;
+use std::rt::Files;
+
+fn main(rt: HostRuntime) -> io::Result<()> {
+    taken(&rt)?;
+    refused(&rt)?;
+    refused_lines(&rt)?;
+    no_file(&rt)
 }
 
-fn taken() {
-    one(b"good.txt");
-    one(b"no_final_lf.txt");
-    one(b"clips_high.txt");
-    one(b"just_clips.txt");
-    one(b"just_fits.txt");
-    one(b"sixty_four.txt");
-    one(b"16384_bytes.txt");
+fn taken(rt: &(impl Files + Print + Eprint)) -> io::Result<()> {
+    one(rt, "good.txt")?;
+    one(rt, "no_final_lf.txt")?;
+    one(rt, "clips_high.txt")?;
+    one(rt, "just_clips.txt")?;
+    one(rt, "just_fits.txt")?;
+    one(rt, "sixty_four.txt")?;
+    one(rt, "16384_bytes.txt")
 }
 
 // The file as a whole.
-fn refused() {
-    one(b"16385_bytes.txt");
-    one(b"sixty_five.txt");
-    one(b"empty.txt");
-    one(b"comments.txt");
+fn refused(rt: &(impl Files + Print + Eprint)) -> io::Result<()> {
+    one(rt, "16385_bytes.txt")?;
+    one(rt, "sixty_five.txt")?;
+    one(rt, "empty.txt")?;
+    one(rt, "comments.txt")
 }
 
-fn refused_lines() {
-    one(b"crlf.txt");
-    one(b"nul.txt");
-    one(b"long_line.txt");
-    one(b"refused.txt");
+fn refused_lines(rt: &(impl Files + Print + Eprint)) -> io::Result<()> {
+    one(rt, "crlf.txt")?;
+    one(rt, "nul.txt")?;
+    one(rt, "long_line.txt")?;
+    one(rt, "refused.txt")
 }
 
-fn no_file() {
-    one(b"missing.txt");
-    one(b".");
-    one(b"");
+fn no_file(rt: &(impl Files + Print + Eprint)) -> io::Result<()> {
+    one(rt, "missing.txt")?;
+    one(rt, ".")?;
+    one(rt, "")
 }
 
-fn one(name: &[u8]) {
-    io::write_all(libc::STDOUT_FILENO, b"== ");
-    io::write_all(libc::STDOUT_FILENO, name);
-    io::write_all(libc::STDOUT_FILENO, b"\n");
-    report::file(name);
+fn one(rt: &(impl Files + Print + Eprint), name: &str) -> io::Result<()> {
+    println!(rt; "== {name}")?;
+    report::file(rt, name.as_bytes())
 }

@@ -7,7 +7,7 @@ use Rattle.wide.specs.declared.Wide.{Wide}
 use Rattle.wide.specs.Meaning.{Words}
 use Rattle.format.specs.declared.Manner.{Manner}
 use Rattle.format.specs.Meaning.{Sign, is_width, settle, with_sign, exact}
-use Rattle.format.specs.Far.{settle-words}
+use Rattle.format.proofs.Far.{settle-words}
 
 -- n is `whole` times 2^64 and the lower word; of `whole` the upper word tells whether it is 0
 pub record Folds (n : ℕ) (r : Wide) : Type 0 where

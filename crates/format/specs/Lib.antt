@@ -1,6 +1,5 @@
 pub mod Answer
 pub mod Cases
-pub mod Far
 pub mod Fault
 pub mod Meaning
 pub mod Place

@@ -1,18 +1,17 @@
 -- The four manners from what the code finds of a number: whether its magnitude is within the limit on its side, the magnitude held
 -- to that limit, and the raw that the residue stands for. One law a manner, over the width and the sign. Assumes nothing.
-use Rattle.std.specs.Prelude.{◌≡◌, Bool, true, false, ℕ, ◌+◌, ◌*◌, ◌-◌, ◌^◌, ◌≤◌, min, leb, ℤ, pos}
-use Rattle.std.proofs.Math.Path.{sym, ap, ap₂}
+use Rattle.std.specs.Prelude.{◌≡◌, Bool, true, false, ℕ, ◌-◌, ◌^◌, ◌≤◌, ℤ, pos}
+use Rattle.std.proofs.Math.Path.{sym, ap}
 use Rattle.std.proofs.Common.{◌∙◌, arith, pow_pos, SFits}
-use Rattle.std.proofs.Math.Bool.{not}
 use Rattle.std.specs.Int.{w64}
-use borrow.Author.Tests.{leb-true, eq-eqb, ne_eqb}
+use borrow.Author.Tests.{eq-eqb, ne_eqb}
 use Rattle.laws.specs.Bound.{sfits-in}
 use Rattle.laws.specs.Diff.{up}
-use Rattle.format.specs.Meaning.{Sign, signed, unsigned, is_width, fits, wrap, settle, unless, with_sign, exact, Outcome, done, refused, guarded}
+use Rattle.format.specs.Meaning.{Sign, signed, unsigned, is_width, wrap, settle, unless, with_sign, exact, Outcome, done, refused, guarded}
 use Rattle.format.specs.Fault.{width-bounds, half-word}
 use Rattle.format.specs.Theorems.{limit}
-use Rattle.format.specs.Place.{PlacedAs, fits-place, hold-place, sign-out, residue, residue-wraps, resigned, resigned-wraps}
-use Rattle.format.specs.declared.Manner.TheVariants.{Strict, Saturating, Wrapping, Overflowing}
+use Rattle.format.specs.Place.{sign-out, residue, residue-wraps, resigned, resigned-wraps}
+use Rattle.format.specs.declared.Manner.TheVariants.{Wrapping}
 
 -- the limits as the code computes them, h half of 2^W and t the highest unsigned raw
 module _ (w : ℕ) {neg : Bool} where
@@ -47,30 +46,6 @@ pub held_up : (w : ℕ) (neg : Bool) {l held : ℕ} → l ≡ limit unsigned w n
 unfolding limit
 held_up w true {held = held} e p = omega (arith, sign-out true held, e, p)
 held_up w false {held = held} e p = omega (arith, sign-out false held)
-
-module _ (s : Sign) (w : ℕ) (neg : Bool) (high low : ℕ) {l held : ℕ} {ok : Bool} (end : l ≡ limit s w neg) (p : PlacedAs high low l ok held) where
-  tested : fits s w (exact neg high low) ≡ ok
-  tested = fits-place s w neg (high * 2 ^ 64 + low) ∙ ap (leb (high * 2 ^ 64 + low)) (sym end) ∙ sym p.0
-
-  pub strict-done : ok ≡ true → settle Strict s w (exact neg high low) ≡ done (with_sign neg held) false
-  unfolding settle
-  strict-done t =
-      let within : high * 2 ^ 64 + low ≤ l = leb-true _ _ (sym p.0 ∙ t) in
-      let same : high * 2 ^ 64 + low ≡ held = omega (arith, p.1) in
-      rw (tested, t) (ap (λ (k : ℕ). done (with_sign neg k) false) same)
-
-  pub strict-over : ok ≡ false → settle Strict s w (exact neg high low) ≡ refused 10
-  unfolding settle
-  strict-over t = rw (tested, t)
-
-  pub saturating-done : settle Saturating s w (exact neg high low) ≡ done (with_sign neg held) false
-  unfolding settle
-  saturating-done =
-      ap (λ (y : ℤ). done y false) (hold-place s w neg (high * 2 ^ 64 + low) ∙ ap (with_sign neg) (ap (min (high * 2 ^ 64 + low)) (sym end) ∙ sym p.1))
-
-  pub overflowing-done : {y : ℤ} → y ≡ wrap s w (exact neg high low) → settle Overflowing s w (exact neg high low) ≡ done y (not ok)
-  unfolding settle
-  overflowing-done e = ap₂ done (sym e) (ap not tested)
 
 pub wrapping-done : (s : Sign) (w : ℕ) (x : ℤ) {y : ℤ} → y ≡ wrap s w x → settle Wrapping s w x ≡ done y false
 unfolding settle

@@ -12,7 +12,7 @@ use Rattle.format.specs.declared.Manner.TheVariants.{Strict, Saturating, Wrappin
 use Rattle.format.specs.Meaning.{Sign, is_width, settle, unless, fault_of, with_sign, exact, done, refused, guarded}
 use Rattle.format.specs.Fault.{fault-free, width-bounds}
 use Rattle.format.specs.Settle.{unless-fault, unless-none}
-use Rattle.format.specs.Far.{far-end}
+use Rattle.format.proofs.Far.{far-end}
 use Rattle.float.specs.Meaning.{Binary, negative, biased, trailing, steps, nan, infinite, finite, of_fields, pattern_value, raw_of_steps}
 use Rattle.float.specs.Parts.{magnitude_of, at-end, before-end}
 use Rattle.float.specs.Folds.{Folds, settle-folds}

@@ -7,7 +7,8 @@ use Rattle.format.specs.declared.Manner.{Manner}
 use Rattle.format.specs.Meaning.{Sign, fault_of, settle, with_sign, done, refused}
 use Rattle.format.specs.Fault.{fault-free, width-bounds}
 use Rattle.format.specs.Settle.{unless-none}
-use Rattle.format.specs.Theorems.{InRange, settle-fits}
+use Rattle.format.specs.Theorems.{InRange}
+use Rattle.format.proofs.Theorems.{settle-fits}
 use Rattle.float.specs.Meaning.{Binary, least, Value, nan, finite, pattern_value}
 use Rattle.float.specs.Theorems.{raw-exact}
 use Rattle.from_float.specs.Meaning.{of_value, from_float_of}

@@ -12,7 +12,7 @@ use Rattle.format.specs.declared.Manner.TheVariants.{Strict, Wrapping}
 use Rattle.format.specs.Meaning.{Sign, wrap, settle, with_sign, done, refused}
 use Rattle.format.specs.Theorems.{lowest-out, highest-out, wrap-only}
 use Rattle.format.specs.Place.{sign-out}
-use Rattle.format.specs.Far.{far-unfit}
+use Rattle.format.proofs.Far.{far-unfit}
 use Rattle.grammar.specs.Meaning.{Written, num, den, raw_of, with_digit}
 use Rattle.grammar.specs.Naturals.{nat_of, nat_from-snoc}
 

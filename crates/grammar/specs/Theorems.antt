@@ -20,10 +20,11 @@ use Rattle.laws.specs.Text.{zeros}
 use Rattle.format.specs.declared.Manner.{Manner}
 use Rattle.format.specs.declared.Manner.TheVariants.{Strict, Saturating, Wrapping, Overflowing}
 use Rattle.format.specs.Meaning.{Sign, unsigned, Outcome, done, refused, is_width, fault_of, unless, fits, wrap, settle, with_sign, guarded}
-use Rattle.format.specs.Theorems.{InRange, limit, in-fits, settle-fits, strict-refuses, flag-set}
+use Rattle.format.specs.Theorems.{InRange, limit, in-fits}
+use Rattle.format.proofs.Theorems.{settle-fits, strict-refuses, flag-set}
 use Rattle.format.specs.Fault.{fault-free, width-bounds}
 use Rattle.format.specs.Settle.{unless-none}
-use Rattle.format.specs.Place.{within, fits-place}
+use Rattle.format.proofs.Limits.{within, fits-place}
 use Rattle.grammar.specs.Meaning.{Written, Reading, number, plain_reading, literal_reading, outcome_of, after_prefix, literal_minus}
 use Rattle.grammar.specs.Meaning.{literal_body, literal_radix, num, den, raw_of, text_limit, is_radix, read_of, literal_of, blank}
 use Rattle.grammar.specs.Automaton.{Skip, Error, whole, nothing, sign, at, plain_scan, literal_scan, read_scan}

@@ -12,7 +12,7 @@ use Rattle.laws.specs.Tests.{lt_z-true, lt-lt_z}
 use Rattle.format.specs.Meaning.{lowest, highest}
 use Rattle.filter.specs.Meaning.{sum_of, rounded, level_of}
 use Rattle.filter.specs.Range.{Sample, zero-sample, Samples, more}
-use Rattle.filter.specs.Rounding.{rounded-mono}
+use Rattle.filter.proofs.Rounding.{rounded-mono}
 use Rattle.headroom.specs.declared.peak.Way.{Way}
 use Rattle.headroom.specs.declared.peak.Way.TheVariants.{High, Low}
 use Rattle.headroom.specs.Meaning.{by_sign, driven_of, driving, passes, clips_way}

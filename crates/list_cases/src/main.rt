@@ -2,11 +2,14 @@
 // `stdout` are made by oracle/list_cases.py. `read` lends the records.
 #![tactic(auto)]
 
+ghost use Rattle.std.specs.Prelude.{◌≤◌, length, IfOk};
 ghost use Rattle.fitting_list.specs.Promise.{ReadsList};
 
 use fitting::FileAnswer;
 use fitting_list::Entry;
-use libc::STDOUT_FILENO;
+use std::io::Read;
+use std::rt::Files;
+use std::{fs, io};
 
 const PLACES: usize = 8;
 
@@ -18,28 +21,39 @@ struct After {
     taps: [i16; PLACES],
 }
 
-fn main() {
-    one(b"done.txt");
-    one(b"no_final_lf.txt");
-    one(b"refused.txt");
-    one(b"nine.txt");
-    one(b"empty.txt");
+fn main(rt: HostRuntime) -> io::Result<()> {
+    one(&rt, "done.txt")?;
+    one(&rt, "no_final_lf.txt")?;
+    one(&rt, "refused.txt")?;
+    one(&rt, "nine.txt")?;
+    one(&rt, "empty.txt")
 }
 
 // Every place is marked before the call, so that one that stays as it was is seen.
-fn one(name: &[u8]) {
-    text(b"== ");
-    text(name);
-    let fd = os::open_read(name);
-    let mut buf = io::buffer();
-    let n = io::read_full(fd, &mut buf);
-    libc::close(fd);
+fn one(rt: &(impl Files + Print), name: &str) -> io::Result<()> {
+    println!(rt; "== {name}")?;
+    let mut buf = [0u8; 4096];
+    let n = fill(&mut fs::open(rt, name)?, &mut buf)?;
     let mark = Entry {
         line: 9999,
         raw: -9999,
         answer: 99,
     };
-    show(read(&buf[..n], [mark; PLACES], [-777; PLACES]));
+    show(rt, read(&buf[..n], [mark; PLACES], [-777; PLACES]))
+}
+
+// Reads until the buffer is full or the file ends; how many bytes came.
+fn fill(file: &mut impl Read, buf: &mut [u8]) -> io::Result<usize>
+    ensures { IfOk result (λ n. n ≤ length buf.new) }
+{
+    let mut n = 0;
+    while n < buf.len() {
+        match file.read(&mut buf[n..])? {
+            0 => break,
+            more => n += more,
+        }
+    }
+    Ok(n)
 }
 
 // A copy of the list and one of the taps are lent to `read_list`.
@@ -51,57 +65,14 @@ fn read(file: &[u8], mut list: [Entry; PLACES], mut taps: [i16; PLACES]) -> Afte
 }
 
 // The answer's number, values, line and inner answer; then every place.
-fn show(after: After) {
-    let answer = after.answer;
-    let list = after.list;
-    let taps = after.taps;
-    text(b"\nanswer");
-    match answer {
-        FileAnswer::Done { values } => row(0, values as i64, 0, 0),
-        FileAnswer::Refused(number) => row(number as i64, 0, 0, 0),
-        FileAnswer::Line { line, inner } => row(42, 0, line as i64, inner as i64),
+fn show(rt: &impl Print, after: After) -> io::Result<()> {
+    match after.answer {
+        FileAnswer::Done { values } => println!(rt; "answer 0 {values} 0 0")?,
+        FileAnswer::Refused(number) => println!(rt; "answer {number} 0 0 0")?,
+        FileAnswer::Line { line, inner } => println!(rt; "answer 42 0 {line} {inner}")?,
     }
-    places(list, taps);
-    text(b"\n");
-}
-
-fn places(list: [Entry; PLACES], taps: [i16; PLACES]) {
-    let mut i = 0;
-    while i < PLACES {
-        place(list[i], taps[i]);
-        i += 1;
+    for (entry, tap) in after.list.iter().zip(&after.taps) {
+        println!(rt; "line {} {} {} {tap}", entry.line, entry.raw, entry.answer)?;
     }
-}
-
-fn place(entry: Entry, tap: i16) {
-    text(b"\nline");
-    row(
-        entry.line as i64,
-        wide(entry.raw),
-        entry.answer as i64,
-        wide(tap),
-    );
-}
-
-fn row(a: i64, b: i64, c: i64, d: i64) {
-    number(a);
-    number(b);
-    number(c);
-    number(d);
-}
-
-fn number(x: i64) {
-    text(b" ");
-    if x < 0 {
-        text(b"-");
-    }
-    io::print_decimal(STDOUT_FILENO, format::signed::magnitude(x));
-}
-
-fn wide(x: i16) -> i64 {
-    x as i64
-}
-
-fn text(t: &[u8]) {
-    io::write_all(STDOUT_FILENO, t);
+    Ok(())
 }

@@ -52,7 +52,7 @@ pub(crate) fn put(line: &mut [u64; 20], text: &mut [u8; 4100], field: usize, b: 
 // A number with one digit more. Beyond a word, where no stored number is, it is some other.
 fn longer(n: u64, b: u8) -> u64 {
     if n <= TENTH {
-        return std::num::wrapping_add_u64(n * 10, digit(b));
+        return (n * 10).wrapping_add(digit(b));
     }
     0
 }

@@ -1,5 +1,7 @@
 // Replays the stored answers: writes of each file of data/ how many it has and how many differ.
 // A file is taken byte by byte, so that no line needs to lie whole in a buffer.
+#![tactic(auto)]
+
 mod answer;
 mod asked;
 mod fields;
@@ -7,7 +9,9 @@ mod hex;
 mod logarithm;
 mod reader;
 
-use libc::STDOUT_FILENO;
+use std::io;
+use std::io::Read;
+use std::rt::Files;
 
 // Where the walk stands: the field of the line; and what the lines before it told.
 #[derive(Drop)]
@@ -17,31 +21,22 @@ struct Place {
     differ: u64,
 }
 
-// Pieces of 65,536 bytes that are read at most: room for samples three times as long.
-const PIECES: u64 = 64;
+// The bytes of a file that are read at most: room for samples three times as long.
+const LIMIT: u64 = 4194304;
 
-fn main() {
-    replay(b"text.txt");
-    replay(b"log10.txt");
+fn main(rt: HostRuntime) -> io::Result<()> {
+    replay(&rt, "text.txt")?;
+    replay(&rt, "log10.txt")
 }
 
-fn replay(name: &[u8]) {
-    let fd = os::open_read(name);
-    let end = whole(fd);
-    libc::close(fd);
-    write(name, end.answers, end.differ);
+fn replay(rt: &(impl Files + Print), name: &str) -> io::Result<()> {
+    let mut file = std::fs::open(rt, name)?.take(LIMIT);
+    let end = whole(&mut file)?;
+    println!(rt; "{name}: {} answers replayed, {} differ", end.answers, end.differ)
 }
 
-fn write(name: &[u8], answers: u64, differ: u64) {
-    io::write_all(STDOUT_FILENO, name);
-    io::write_all(STDOUT_FILENO, b": ");
-    io::print_decimal(STDOUT_FILENO, answers);
-    io::write_all(STDOUT_FILENO, b" answers replayed, ");
-    io::print_decimal(STDOUT_FILENO, differ);
-    io::write_all(STDOUT_FILENO, b" differ\n");
-}
-
-fn whole(fd: i32) -> Place {
+// A piece of the file after another, to its end.
+fn whole(file: &mut impl Read) -> io::Result<Place> {
     let mut line = [0u64; 20];
     let mut text = [0u8; 4100];
     let mut place = Place {
@@ -49,27 +44,21 @@ fn whole(fd: i32) -> Place {
         answers: 0,
         differ: 0,
     };
-    let mut left = PIECES;
-    while left > 0 {
-        place = piece(fd, &mut line, &mut text, place);
-        left = left - 1;
+    let mut piece = [0u8; 65536];
+    for _ in 0..u64::MAX {
+        let n = file.read(&mut piece)?;
+        if n == 0 {
+            break;
+        }
+        place = walk(&piece[..n], &mut line, &mut text, place);
     }
-    place
-}
-
-// After the end of the file a piece is empty, and changes nothing.
-fn piece(fd: i32, line: &mut [u64; 20], text: &mut [u8; 4100], place: Place) -> Place {
-    let mut buf = io::large_buffer();
-    let n = io::read_full(fd, &mut buf);
-    walk(&buf[..n], line, text, place)
+    Ok(place)
 }
 
 fn walk(bytes: &[u8], line: &mut [u64; 20], text: &mut [u8; 4100], place: Place) -> Place {
     let mut at = place;
-    let mut i = 0;
-    while i < bytes.len() {
-        at = step(bytes[i], line, text, at);
-        i = i + 1;
+    for b in bytes {
+        at = step(*b, line, text, at);
     }
     at
 }
@@ -97,7 +86,7 @@ fn end_of_line(line: &mut [u64; 20], text: &[u8; 4100], at: Place) -> Place {
     fields::clear(line);
     Place {
         field: fields::KIND,
-        answers: std::num::wrapping_add_u64(at.answers, told),
-        differ: std::num::wrapping_add_u64(at.differ, differs),
+        answers: at.answers.wrapping_add(told),
+        differ: at.differ.wrapping_add(differs),
     }
 }

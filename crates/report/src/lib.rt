@@ -1,55 +1,100 @@
 // What the program `fit` prints of a fitting file: the taps and the verdict, or
 // the refusal. The last line is `ok` or `refused`.
+#![tactic(auto)]
+
 mod hint;
 mod out;
 mod refusal;
 mod taps;
 mod verdict;
 
+ghost use Rattle.std.specs.Prelude.{◌≤◌, length};
+
 use filter::TAPS;
 use fitting::FileAnswer;
+use std::io::{ErrorKind, Read};
+use std::rt::Files;
+use std::{fs, io};
+
+// Longer than the longest file, so that a file too long is refused and not cut.
+const ROOM: usize = 65536;
 
 // Reads the file of that name and prints the report.
-pub fn file(name: &[u8]) {
-    let fd = os::open_read(name);
-    if fd < 0 {
-        os::fail(name);
-        refusal::unopened(name);
-        return;
+pub fn file(rt: &(impl Files + Print + Eprint), name: &[u8]) -> io::Result<()> {
+    match open(rt, name) {
+        Ok(mut file) => opened(rt, &mut file, name),
+        Err(error) => {
+            fail(rt, name, error);
+            refusal::unopened(rt, name)
+        }
     }
-    opened(fd, name);
 }
 
 // `fit` was started without the name of a file.
-pub fn usage() {
-    refusal::usage();
+pub fn usage(rt: &impl Print) -> io::Result<()> {
+    refusal::usage(rt)
 }
 
-// The buffer is longer than the longest file, so that a file too long is refused and not cut.
-fn opened(fd: i32, name: &[u8]) {
-    let mut buf = io::large_buffer();
-    let n = io::read_full(fd, &mut buf);
-    let whole = ended(fd);
-    if !whole {
+// A name that is not text names no file that std opens.
+fn open<R: Files>(rt: &R, name: &[u8]) -> io::Result<R::File> {
+    match str::from_utf8(name) {
+        Ok(name) => fs::open(rt, name),
+        Err(_) => Err(io::Error::new(
+            ErrorKind::InvalidFilename,
+            "the name is not UTF-8",
+        )),
+    }
+}
+
+fn opened(
+    rt: &(impl Print + Eprint),
+    file: &mut impl Read,
+    name: &[u8],
+) -> io::Result<()> {
+    let mut buf = [0u8; ROOM];
+    let n = fill(file, &mut buf);
+    if let Err(error) = ended(file) {
         if n < fitting::FILE_LIMIT {
-            os::fail(name);
-            libc::close(fd);
-            refusal::unread(name);
-            return;
+            fail(rt, name, error);
+            return refusal::unread(rt, name);
         }
     }
-    libc::close(fd);
-    bytes(&buf[..n]);
+    bytes(rt, &buf[..n])
 }
 
-// One read more: nothing at the end of the file; -1 where reading failed, as of a directory.
-fn ended(fd: i32) -> bool {
-    let mut more = [0u8; 1];
-    libc::read(fd, &mut more[..]) == 0
+// Reads until the buffer is full, the file ends or reading fails; how many bytes came.
+fn fill(file: &mut impl Read, buf: &mut [u8]) -> usize
+    ensures { result ≤ length buf.new }
+{
+    let mut n = 0;
+    while n < buf.len() {
+        match file.read(&mut buf[n..]) {
+            Ok(0) => return n,
+            Ok(more) => n += more,
+            Err(_) => return n,
+        }
+    }
+    n
+}
+
+// One read more: nothing at the end of the file; an error where reading failed, as of a directory.
+fn ended(file: &mut impl Read) -> io::Result<()> {
+    match file.read(&mut [0u8; 1])? {
+        0 => Ok(()),
+        _ => Err(io::Error::from(ErrorKind::FileTooLarge)),
+    }
+}
+
+// Why the file was not opened or read, on the standard error. Whether that is written or not, the report goes on.
+fn fail(rt: &impl Eprint, name: &[u8], error: io::Error) {
+    let _ = match str::from_utf8(name) {
+        Ok(name) => eprintln!(rt; "{name}: {error}"),
+        Err(_) => eprintln!(rt; "{}: {error}", name.escape_ascii()),
+    };
 }
 
 // The report of a file's bytes.
-pub fn bytes(file: &[u8]) {
+pub fn bytes(rt: &impl Print, file: &[u8]) -> io::Result<()> {
     let mut lines = [0u32; TAPS];
     let mut raws = [0i16; TAPS];
     let mut answers = [0u32; TAPS];
@@ -62,16 +107,18 @@ pub fn bytes(file: &[u8]) {
         &mut taps[..],
     );
     match answer {
-        FileAnswer::Done { values } => good(&lines[..], &taps[..], values),
-        FileAnswer::Refused(number) => refusal::whole(number),
-        FileAnswer::Line { line, inner } => refusal::lines(file, &lines[..], &answers[..]),
+        FileAnswer::Done { values } => good(rt, &lines[..], &taps[..], values),
+        FileAnswer::Refused(number) => refusal::whole(rt, number),
+        FileAnswer::Line { line: _, inner: _ } => {
+            refusal::lines(rt, file, &lines[..], &answers[..])
+        }
     }
 }
 
 // Every tap, and the verdict on all of them.
-fn good(lines: &[u32], taps: &[i16], values: u32) {
+fn good(rt: &impl Print, lines: &[u32], taps: &[i16], values: u32) -> io::Result<()> {
     let kept = out::upto(taps, values as usize);
-    taps::show(lines, kept);
-    verdict::show(kept);
-    out::text(b"ok\n");
+    taps::show(rt, lines, kept)?;
+    verdict::show(rt, kept)?;
+    rt.println("ok")
 }

@@ -2,20 +2,13 @@
 ghost use Rattle.std.specs.Prelude.{◌≡◌, ◌≤◌};
 
 use format::UnsignedAnswer;
+use std::io;
 
 // The most bytes of a line of the file that are shown.
 const SHOWN: usize = 80;
 
 // The longest text of the writer for I1F15 and for a sum.
 const LONGEST: usize = 67;
-
-pub(crate) fn text(t: &[u8]) {
-    io::write_all(libc::STDOUT_FILENO, t);
-}
-
-fn number(n: u64) {
-    io::print_decimal(libc::STDOUT_FILENO, n);
-}
 
 // The lesser of two counts.
 pub(crate) fn least(a: usize, b: usize) -> usize
@@ -29,20 +22,21 @@ pub(crate) fn least(a: usize, b: usize) -> usize
 }
 
 // A raw, exactly, through the writer.
-pub(crate) fn value(raw: i64, width: u32, frac: u32) {
+pub(crate) fn value(rt: &impl Print, raw: i64, width: u32, frac: u32) -> io::Result<()> {
     let mut buf = [0u8; LONGEST];
     let answer = decimal::signed::write(raw, width, frac, &mut buf[..]);
     let UnsignedAnswer::Done { raw: n, flag: _ } = answer else {
-        return;
+        return Ok(());
     };
-    start(&buf[..], n as usize);
+    start(rt, &buf[..], n as usize)
 }
 
 // The first n bytes.
-fn start(bytes: &[u8], n: usize) {
+fn start(rt: &impl Print, bytes: &[u8], n: usize) -> io::Result<()> {
     if n <= bytes.len() {
-        text(&bytes[..n]);
+        return rt.write_all(&bytes[..n]);
     }
+    Ok(())
 }
 
 // A tap or a sample as a wider number.
@@ -62,51 +56,31 @@ pub(crate) fn upto(list: &[i16], n: usize) -> &[i16] {
 
 // An entry of a list, 0 past its end.
 pub(crate) fn entry(list: &[u32], i: usize) -> u32 {
-    if i < list.len() {
-        return list[i];
-    }
-    0
-}
-
-pub(crate) fn sample(list: &[i16], i: usize) -> i16 {
-    if i < list.len() {
-        return list[i];
-    }
-    0
-}
-
-// The name of a thing with its number: `tap 3`.
-pub(crate) fn item(name: &[u8], n: u64) {
-    text(name);
-    text(b" ");
-    number(n);
+    list.get(i).copied().unwrap_or(0)
 }
 
 // A line of the file on one line: a byte that cannot be printed, or a backslash, as its number, `\x0d`.
-pub(crate) fn quoted(line: &[u8]) {
+pub(crate) fn quoted(rt: &impl Print, line: &[u8]) -> io::Result<()> {
     if line.len() <= SHOWN {
-        bytes(line);
-        return;
+        return bytes(rt, line);
     }
-    bytes(&line[..SHOWN]);
-    text(b"..");
+    bytes(rt, &line[..SHOWN])?;
+    rt.print("..")
 }
 
-fn bytes(part: &[u8]) {
-    let mut i = 0;
-    while i < part.len() {
-        byte(part[i]);
-        i += 1;
+fn bytes(rt: &impl Print, part: &[u8]) -> io::Result<()> {
+    for b in part {
+        byte(rt, *b)?;
     }
+    Ok(())
 }
 
-fn byte(b: u8) {
+fn byte(rt: &impl Print, b: u8) -> io::Result<()> {
     if plain(b) {
-        text(&[b]);
-        return;
+        rt.write_all(&[b])
+    } else {
+        print!(rt; "\\x{b:02x}")
     }
-    text(b"\\x");
-    io::print_hex(libc::STDOUT_FILENO, b as u64, 2);
 }
 
 fn plain(b: u8) -> bool {

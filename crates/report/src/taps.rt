@@ -1,43 +1,31 @@
 // The taps, each with the line that it stands on; and samples.
 use super::out;
+use std::io;
 
 const WIDTH: u32 = 16;
 
 const FRAC: u32 = 15;
 
-pub(crate) fn show(lines: &[u32], taps: &[i16]) {
-    let mut i: usize = 0;
-    while i < taps.len() {
-        let raw = taps[i];
+pub(crate) fn show(rt: &impl Print, lines: &[u32], taps: &[i16]) -> io::Result<()> {
+    for (i, raw) in taps.iter().enumerate() {
         let line = out::entry(lines, i);
-        i += 1;
-        tap(i, line, raw);
+        print!(rt; "tap {} line {line}", i + 1)?;
+        level(rt, *raw)?;
     }
-}
-
-fn tap(place: usize, line: u32, raw: i16) {
-    out::item(b"tap", place as u64);
-    out::item(b" line", line as u64);
-    level(raw);
+    Ok(())
 }
 
 // Newest first.
-pub(crate) fn samples(list: &[i16]) {
-    let mut i: usize = 0;
-    while i < list.len() {
-        let raw = list[i];
-        i += 1;
-        sample(i, raw);
+pub(crate) fn samples(rt: &impl Print, list: &[i16]) -> io::Result<()> {
+    for (i, raw) in list.iter().enumerate() {
+        print!(rt; "sample {}", i + 1)?;
+        level(rt, *raw)?;
     }
+    Ok(())
 }
 
-fn sample(place: usize, raw: i16) {
-    out::item(b"sample", place as u64);
-    level(raw);
-}
-
-fn level(raw: i16) {
-    out::text(b": ");
-    out::value(out::wide(raw), WIDTH, FRAC);
-    out::text(b"\n");
+fn level(rt: &impl Print, raw: i16) -> io::Result<()> {
+    rt.print(": ")?;
+    out::value(rt, out::wide(raw), WIDTH, FRAC)?;
+    rt.println("")
 }

@@ -1,51 +1,43 @@
 // What the programs of cases print: one line an answer, what was asked, then number, flag and value.
-use format::{SignedAnswer, UnsignedAnswer};
-use libc::STDOUT_FILENO;
+#![tactic(auto)]
 
-pub fn signed(asked: &[u8], a: SignedAnswer) {
+use format::{SignedAnswer, UnsignedAnswer};
+use std::io;
+
+pub fn signed(rt: &impl Print, asked: &[u8], a: SignedAnswer) -> io::Result<()> {
     match a {
         SignedAnswer::Done { raw, flag } => {
-            if raw < 0 {
-                line(asked, 0, flag, b"-", format::signed::magnitude(raw));
-                return;
-            }
-            line(asked, 0, flag, b"", format::signed::magnitude(raw));
+            let sign = if raw < 0 { "-" } else { "" };
+            line(rt, asked, 0, flag, sign, format::signed::magnitude(raw))
         }
-        SignedAnswer::Refused(n) => line(asked, n, false, b"", 0),
+        SignedAnswer::Refused(n) => line(rt, asked, n, false, "", 0),
     }
 }
 
-pub fn unsigned(asked: &[u8], a: UnsignedAnswer) {
+pub fn unsigned(rt: &impl Print, asked: &[u8], a: UnsignedAnswer) -> io::Result<()> {
     match a {
-        UnsignedAnswer::Done { raw, flag } => line(asked, 0, flag, b"", raw),
-        UnsignedAnswer::Refused(n) => line(asked, n, false, b"", 0),
+        UnsignedAnswer::Done { raw, flag } => line(rt, asked, 0, flag, "", raw),
+        UnsignedAnswer::Refused(n) => line(rt, asked, n, false, "", 0),
     }
 }
 
-fn line(asked: &[u8], number: u32, flag: bool, sign: &[u8], magnitude: u64) {
-    io::write_all(STDOUT_FILENO, asked);
-    io::write_all(STDOUT_FILENO, b": ");
-    io::print_decimal(STDOUT_FILENO, number as u64);
-    io::write_all(STDOUT_FILENO, b" ");
-    io::print_decimal(STDOUT_FILENO, flag as u64);
-    io::write_all(STDOUT_FILENO, b" ");
-    io::write_all(STDOUT_FILENO, sign);
-    io::print_decimal(STDOUT_FILENO, magnitude);
-    io::write_all(STDOUT_FILENO, b"\n");
+fn line(
+    rt: &impl Print,
+    asked: &[u8],
+    number: u32,
+    flag: bool,
+    sign: &str,
+    magnitude: u64,
+) -> io::Result<()> {
+    rt.write_all(asked)?;
+    println!(rt; ": {number} {} {sign}{magnitude}", flag as u8)
 }
 
 // The bytes that were written, and the answer.
-pub fn bytes(asked: &[u8], out: &[u8], a: UnsignedAnswer) {
-    unsigned(asked, a);
-    let mut i: usize = 0;
-    while i < out.len() {
-        io::write_all(STDOUT_FILENO, b" ");
-        io::print_decimal(STDOUT_FILENO, wide(out[i]));
-        i += 1;
+pub fn bytes(rt: &impl Print, asked: &[u8], out: &[u8], a: UnsignedAnswer) -> io::Result<()> {
+    unsigned(rt, asked, a)?;
+    for b in out {
+        print!(rt; " {b}")?;
     }
-    io::write_all(STDOUT_FILENO, b"\n");
-}
-
-fn wide(b: u8) -> u64 {
-    b as u64
+    rt.println("")
 }

@@ -6,7 +6,7 @@ use Rattle.std.proofs.Math.Decide.{dec_le}
 use native.Mathlib.Omega.{arith}
 use Rattle.format.specs.declared.Manner.{Manner}
 use Rattle.format.specs.Meaning.{Sign, is_width, settle, with_sign}
-use Rattle.format.specs.Far.{settle-words}
+use Rattle.format.proofs.Far.{settle-words}
 use Rattle.fold.specs.Fold.{fold_of, folded_value, bit, value-small, value-past}
 
 module _ (s : Sign) (w : ℕ) (neg : Bool) (m : ℕ) (width : is_width w ≡ true) where

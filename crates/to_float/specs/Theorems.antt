@@ -21,8 +21,9 @@ use Rattle.format.specs.declared.Manner.{Manner}
 use Rattle.format.specs.Meaning.{Sign, fault_of, settle, with_sign, done}
 use Rattle.format.specs.Fault.{fault-free, width-bounds}
 use Rattle.format.specs.Settle.{unless-none}
-use Rattle.format.specs.Theorems.{InRange, lowest-out, highest-out, settle-fits}
-use Rattle.format.specs.Far.{limit-word}
+use Rattle.format.specs.Theorems.{InRange, lowest-out, highest-out}
+use Rattle.format.proofs.Theorems.{settle-fits}
+use Rattle.format.proofs.Far.{limit-word}
 use Rattle.float.specs.Meaning.{Binary, bias, least, negative, biased, trailing, steps}
 use Rattle.float.specs.Meaning.{infinite, finite, of_fields, pattern_value, raw_of_steps}
 use Rattle.float.specs.Parts.{binary}

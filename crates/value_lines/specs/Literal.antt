@@ -6,7 +6,8 @@ use Rattle.format.specs.declared.Manner.TheVariants.{Strict}
 use Rattle.format.specs.declared.SignedAnswer.{SignedAnswer}
 use Rattle.format.specs.declared.SignedAnswer.TheVariants.{Done as DoneS, Refused as RefusedS}
 use Rattle.format.specs.Meaning.{signed, Outcome, done, refused, fault_of, is_width, with_sign, signed_answer, number_s, value_s, guarded}
-use Rattle.format.specs.Theorems.{InRange, settle-in}
+use Rattle.format.specs.Theorems.{InRange}
+use Rattle.format.proofs.Theorems.{settle-in}
 use Rattle.grammar.specs.Meaning.{Reading, number, unread, literal_radix, literal_reading, raw_of, outcome_of, text_limit, literal_of}
 use Rattle.filter.specs.Range.{sample-sfits}
 use Rattle.value_lines.specs.declared.line.Value.{Value}

@@ -4,7 +4,8 @@ use native.Mathlib.Omega.{arith}
 use mir.Syntax.{w64}
 use mir.Facts.{to_z-of_z}
 use Rattle.laws.specs.Signed.{word-pos}
-use Rattle.filter.specs.Added.{odd, whole-odd, half-fits, raised-fits, lowered-fits, lowered_is}
+use Rattle.filter.specs.Added.{odd, whole-odd, half-fits, raised-fits, lowered-fits}
+use Rattle.filter.proofs.Added.{lowered_is}
 use Rattle.filter.proofs.sum.round.Goals as goal
 
 pub overflow_add-result : goal.overflow_add-result

@@ -5,7 +5,8 @@ use Rattle.laws.specs.Signed.{ok-back}
 use Rattle.format.specs.Meaning.{signed}
 use Rattle.format.specs.Answer.{done-signed}
 use Rattle.format.specs.Place.{residue-below}
-use Rattle.format.specs.Settle.{overflowing-done, bits-signed}
+use Rattle.format.specs.Settle.{bits-signed}
+use Rattle.format.proofs.Settle.{overflowing-done}
 use Rattle.format.proofs.signed.overflowing.Goals as goal
 
 pub resigned-requires : goal.resigned-requires

@@ -5,7 +5,8 @@ use mir.Syntax.{w64}
 use Rattle.laws.specs.Signed.{ok-back}
 use Rattle.format.specs.Meaning.{signed}
 use Rattle.format.specs.Answer.{done-signed, refused-signed}
-use Rattle.format.specs.Settle.{held_fits, strict-done, strict-over}
+use Rattle.format.specs.Settle.{held_fits}
+use Rattle.format.proofs.Settle.{strict-done, strict-over}
 use Rattle.format.proofs.signed.strict.Goals as goal
 
 pub with_sign-requires : goal.with_sign-requires

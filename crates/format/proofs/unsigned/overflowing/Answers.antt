@@ -2,7 +2,8 @@
 use mathlib.Core.Path.{refl}
 use Rattle.format.specs.Meaning.{unsigned}
 use Rattle.format.specs.Answer.{done-unsigned}
-use Rattle.format.specs.Settle.{overflowing-done, bits-unsigned}
+use Rattle.format.specs.Settle.{bits-unsigned}
+use Rattle.format.proofs.Settle.{overflowing-done}
 use Rattle.format.proofs.unsigned.overflowing.Goals as goal
 
 pub returns : goal.returns

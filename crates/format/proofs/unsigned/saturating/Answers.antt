@@ -2,7 +2,8 @@
 use native.Mathlib.Omega.{arith}
 use Rattle.format.specs.Meaning.{unsigned}
 use Rattle.format.specs.Answer.{done-unsigned}
-use Rattle.format.specs.Settle.{held_up, saturating-done}
+use Rattle.format.specs.Settle.{held_up}
+use Rattle.format.proofs.Settle.{saturating-done}
 use Rattle.format.proofs.unsigned.saturating.Goals as goal
 
 pub returns : goal.returns

@@ -2,7 +2,8 @@
 use native.Mathlib.Omega.{arith}
 use Rattle.format.specs.Meaning.{unsigned}
 use Rattle.format.specs.Answer.{done-unsigned, refused-unsigned}
-use Rattle.format.specs.Settle.{held_up, strict-done, strict-over}
+use Rattle.format.specs.Settle.{held_up}
+use Rattle.format.proofs.Settle.{strict-done, strict-over}
 use Rattle.format.proofs.unsigned.strict.Goals as goal
 
 pub returns-then-placed : goal.returns-then-placed

@@ -11,7 +11,8 @@ use Rattle.format.specs.declared.Manner.TheVariants.{Strict, Saturating, Wrappin
 use Rattle.format.specs.Meaning.{Sign, signed, unsigned, is_width, lowest, highest, fits, hold, wrap, settle, with_sign, exact, done}
 use Rattle.format.specs.Fault.{width-bounds, half-word}
 use Rattle.format.specs.Theorems.{limit, lowest-out, highest-out}
-use Rattle.format.specs.Place.{fits-place, hold-place, sign-out}
+use Rattle.format.specs.Place.{sign-out}
+use Rattle.format.proofs.Limits.{fits-place, hold-place}
 use Rattle.format.specs.Settle.{bits-signed, bits-unsigned}
 
 -- ---- every number past 2^64 is past the limit on its side
