@@ -1,18 +1,14 @@
 -- The three ways out of `read`, put into the promised outcome: a refusal before anything is written, a refused line, and the taps. Assumes nothing.
-use Rattle.std.proofs.Math.Path.{◌≡◌, ap}
-use Rattle.std.specs.Prelude.{refl, ◌⊎◌, Bool, List, [], ◌∷◌, map, ℕ, ◌≤◌, eqb, ℤ, length, take, drop}
-use Rattle.std.proofs.Common.{sym, ◌∙◌, inl, inr, arith, length-append, take_at}
+use Rattle.std.proofs.Math.Path.{◌≡◌}
+use Rattle.std.specs.Prelude.{refl, Bool, List, [], ◌∷◌, map, ℕ, ◌≤◌, eqb, ℤ, length, take, drop}
+use Rattle.std.proofs.Common.{sym, ◌∙◌, arith, length-append, take_at}
 use Rattle.std.proofs.Math.Bool.{true, false, cond}
 use Rattle.std.proofs.lemmas.List.{length-map}
 use Rattle.format.specs.Meaning.{guarded}
-use Rattle.filter.specs.Refuse.{which}
-use Rattle.value_lines.specs.Meaning.{ValueLine, values_of, line_number, raw_at, number_at, over}
-use Rattle.value_lines.specs.Store.{AllEntered}
+use Rattle.value_lines.specs.Meaning.{ValueLine, values_of, number_at, over}
 use Rattle.fitting.specs.declared.FileAnswer.{FileAnswer}
 use Rattle.fitting.specs.declared.FileAnswer.TheVariants.{Done, Refused, Line}
 use Rattle.fitting.specs.Meaning.{judge, accepted, file_fault, Fitted, fitted, listed}
-use Rattle.fitting.specs.Room.{checked_of, Room, fault-none}
-use Rattle.fitting.specs.Judge.{judged_of, judged-is}
 
 -- no answer that is done
 abbrev pub NotDone : FileAnswer → Type 0

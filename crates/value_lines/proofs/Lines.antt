@@ -1,9 +1,8 @@
 -- The lines of a file by the place where each starts, as the code walks them; and that they are the meaning's lines. Assumes nothing.
-use Rattle.std.specs.Prelude.{◌≡◌, refl, Bool, true, false, cond, not, List, [], ◌∷◌, ◌++◌, ℕ, suc, ◌+◌, ◌-◌, ◌≤◌, ◌<◌, eqb, length, take, drop, get_or}
+use Rattle.std.specs.Prelude.{◌≡◌, refl, Bool, true, false, List, [], ◌∷◌, ℕ, suc, ◌+◌, ◌<◌, length, drop}
 use Rattle.std.proofs.Math.Path.{sym}
-use Rattle.std.proofs.Common.{ap, ◌∙◌, append_assoc, append-nil, add-one, arith, length-drop, drop_of_length-le, drop-cons, drop-drop, take-suc, get_or-drop}
-use borrow.Author.Tests.{eq-eqb, ne_eqb}
-use Rattle.value_lines.specs.Meaning.{line_feed, hash, onto, lines_of, is_value, value_line, ValueLine, values_from}
+use Rattle.std.proofs.Common.{ap, ◌∙◌, arith}
+use Rattle.value_lines.specs.Meaning.{lines_of, is_value, value_line, values_from}
 use Rattle.value_lines.specs.Lines.{first_line, line_at, value-more, value-skip, values_at, count_at}
 
 -- ---- counting the value lines: how many there are does not depend on the first one's number

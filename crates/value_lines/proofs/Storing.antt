@@ -4,11 +4,9 @@ use Rattle.std.specs.Prelude.{◌≡◌, refl, Bool, true, false, cond, List, []
 use Rattle.std.proofs.Common.{sym, ap, ◌∙◌, arith, length-drop, get_or-drop, drop-drop}
 use Rattle.std.proofs.lemmas.List.{length-map}
 use Rattle.std.proofs.Math.ListN.{get_or-map}
-use Rattle.laws.specs.Unique.{unique}
-use Rattle.value_lines.specs.declared.line.Value.{Value}
-use Rattle.value_lines.specs.Meaning.{is_value, ValueLine, value_line, values_of, line_number, raw_at, number_at, over}
-use Rattle.value_lines.specs.Held.{Held, held_none, held_more, held_all}
-use Rattle.value_lines.specs.Lines.{first_line, values_at, line-within, at-end}
+use Rattle.value_lines.specs.Meaning.{is_value, ValueLine, value_line, values_of, line_number, raw_at, number_at}
+use Rattle.value_lines.specs.Held.{Held, held_more, held_all}
+use Rattle.value_lines.specs.Lines.{first_line, line-within, at-end}
 use Rattle.value_lines.proofs.Lines.{at_value, at-skip}
 use Rattle.value_lines.specs.Literal.{line_value}
 use Rattle.value_lines.specs.Store.{Entered, AllEntered, SoFar}

@@ -1,15 +1,12 @@
 -- What is proved of the meaning of the value lines: a file is its lines; the values are exactly the value lines, in order, each with its number; what a
 -- comment, an empty line or another value changes; and what an answer says of its line. Assumes nothing.
-use Rattle.std.specs.Prelude.{◌≡◌, ◌⊎◌, Bool, true, false, cond, ℕ, suc, ◌+◌, ◌-◌, ◌≤◌, pos, get_or}
+use Rattle.std.specs.Prelude.{◌≡◌, ◌⊎◌, Bool, true, false, cond, ℕ, suc, ◌+◌, ◌-◌}
 use Rattle.std.proofs.Math.Path.{refl, ap}
-use Rattle.std.proofs.Common.{sym, ◌∙◌, subst, inl, inr, arith, ne_eqb}
-use mathlib.Core.List.{List, [], ◌∷◌, ◌++◌, map, map-append, append-nil, append_assoc, Memᴰ}
+use Rattle.std.proofs.Common.{sym, ◌∙◌, subst, inl, inr, arith}
+use mathlib.Core.List.{List, [], ◌∷◌, ◌++◌, map, map-append, Memᴰ}
 use mathlib.Core.List.Memᴰ
 use Rattle.std.proofs.Math.ListN.{length}
-use Rattle.format.specs.Meaning.{signed, Outcome, done, refused, signed_answer, number_s, value_s}
-use Rattle.grammar.specs.Meaning.{literal_of}
-use Rattle.grammar.specs.Theorems.{Early, width, frac, base, size, literal-early}
-use Rattle.value_lines.specs.Meaning.{line_feed, onto, lines_of, is_value, ValueLine, value_line, values_from, values_of, answer_of, raw_at, number_at}
+use Rattle.value_lines.specs.Meaning.{line_feed, lines_of, is_value, ValueLine, value_line, values_from, values_of, raw_at, number_at}
 use Rattle.value_lines.specs.Lines.{value-more, value-skip}
 use Rattle.value_lines.specs.Theorems.{NoFeed, NoFeeds, joined_lines, line-cut, lines-before, only, line_text, texts-from, raws-of, Numbered, values-append, later, values-later}
 

@@ -1,14 +1,12 @@
 -- The list as the loop has it: what one line adds, what stands in the list once the lines before a place are through, and the laws of the start,
 -- of one line more and of the end. Assumes nothing.
-use Rattle.std.specs.Prelude.{◌≡◌, refl, Bool, true, false, cond, List, [], ◌∷◌, map, ℕ, ◌+◌, ◌≤◌, ◌<◌, ℤ, length, drop, get_or, set}
-use Rattle.std.proofs.Common.{sym, ap, ◌∙◌, arith, length-drop, get_or-drop, drop-drop}
-use Rattle.std.proofs.lemmas.List.{length-map}
-use Rattle.std.proofs.Math.ListN.{get_or-map}
+use Rattle.std.specs.Prelude.{◌≡◌, refl, true, false, cond, List, map, ℕ, ◌+◌, ◌≤◌, ℤ, length, drop, set}
+use Rattle.std.proofs.Common.{arith}
 use Rattle.laws.specs.Unique.{unique}
 use Rattle.value_lines.specs.declared.line.Value.{Value}
-use Rattle.value_lines.specs.Meaning.{is_value, ValueLine, value_line, values_of, line_number, raw_at, number_at, over}
-use Rattle.value_lines.specs.Held.{Held, held_none, held_more, held_all}
-use Rattle.value_lines.specs.Lines.{first_line, values_at, line-within, at-end}
+use Rattle.value_lines.specs.Meaning.{is_value, ValueLine, values_of, line_number, raw_at, number_at, over}
+use Rattle.value_lines.specs.Held.{Held, held_none}
+use Rattle.value_lines.specs.Lines.{values_at}
 use Rattle.value_lines.specs.Literal.{line_value}
 
 -- what one line adds: nothing, or its number, raw and answer in place n
