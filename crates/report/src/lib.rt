@@ -39,18 +39,11 @@ pub fn usage(rt: &impl Print) -> io::Result<()> {
 fn open<R: Files>(rt: &R, name: &[u8]) -> io::Result<R::File> {
     match str::from_utf8(name) {
         Ok(name) => fs::open(rt, name),
-        Err(_) => Err(io::Error::new(
-            ErrorKind::InvalidFilename,
-            "the name is not UTF-8",
-        )),
+        Err(_) => Err(io::Error::new(ErrorKind::InvalidFilename, "the name is not UTF-8")),
     }
 }
 
-fn opened(
-    rt: &(impl Print + Eprint),
-    file: &mut impl Read,
-    name: &[u8],
-) -> io::Result<()> {
+fn opened(rt: &(impl Print + Eprint), file: &mut impl Read, name: &[u8]) -> io::Result<()> {
     let mut buf = [0u8; ROOM];
     let n = fill(file, &mut buf);
     if let Err(error) = ended(file) {

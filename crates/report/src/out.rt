@@ -61,16 +61,11 @@ pub(crate) fn entry(list: &[u32], i: usize) -> u32 {
 
 // A line of the file on one line: a byte that cannot be printed, or a backslash, as its number, `\x0d`.
 pub(crate) fn quoted(rt: &impl Print, line: &[u8]) -> io::Result<()> {
-    if line.len() <= SHOWN {
-        return bytes(rt, line);
-    }
-    bytes(rt, &line[..SHOWN])?;
-    rt.print("..")
-}
-
-fn bytes(rt: &impl Print, part: &[u8]) -> io::Result<()> {
-    for b in part {
+    for b in line.iter().take(SHOWN) {
         byte(rt, *b)?;
+    }
+    if line.len() > SHOWN {
+        rt.print("..")?;
     }
     Ok(())
 }

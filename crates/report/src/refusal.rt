@@ -31,7 +31,8 @@ fn file_fault(number: u32) -> &'static str {
     match number {
         4 => "the file is above 16384 bytes; give a fitting file, or take out comments",
         40 => "the file holds no value; write one number on a line, such as 0.5",
-        41 => "the file holds more than 64 values; give a fitting file of at most 64 taps, one on a line",
+        41 =>
+            "the file holds more than 64 values; give a fitting file of at most 64 taps, one on a line",
         _ => "the list has too few places",
     }
 }

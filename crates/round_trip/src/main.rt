@@ -21,7 +21,10 @@ fn main(rt: HostRuntime) -> io::Result<()> {
         &rt,
         unsigned::again(18446744073709551615, 64, 64, Manner::Saturating, &mut out),
     )?;
-    show_unsigned(&rt, unsigned::again(255, 8, 3, Manner::Overflowing, &mut out))
+    show_unsigned(
+        &rt,
+        unsigned::again(255, 8, 3, Manner::Overflowing, &mut out),
+    )
 }
 
 fn show(rt: &impl Print, a: SignedAnswer) -> io::Result<()> {
