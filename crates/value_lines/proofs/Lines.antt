@@ -1,4 +1,4 @@
--- The lines of a file by the place where each starts, as the code walks them; and that they are the meaning's lines. Assumes nothing.
+-- The value lines from a place on, one line at a time: what a line adds to them and to their number. Assumes nothing.
 use Rattle.std.specs.Prelude.{◌≡◌, refl, Bool, true, false, List, [], ◌∷◌, ℕ, suc, ◌+◌, ◌<◌, length, drop}
 use Rattle.std.proofs.Math.Path.{sym}
 use Rattle.std.proofs.Common.{ap, ◌∙◌, arith}

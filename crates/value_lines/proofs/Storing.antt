@@ -1,5 +1,5 @@
--- The list as the loop has it: what one line adds, what stands in the list once the lines before a place are through, and the laws of the start,
--- of one line more and of the end. Assumes nothing.
+-- One line more in the list, and its end: where the lines before a place are through, so are those up to the next, and at the end of the file all.
+-- Assumes nothing.
 use Rattle.std.specs.Prelude.{◌≡◌, refl, Bool, true, false, cond, List, [], ◌∷◌, map, ℕ, ◌+◌, ◌≤◌, ◌<◌, ℤ, length, drop, get_or, set}
 use Rattle.std.proofs.Common.{sym, ap, ◌∙◌, arith, length-drop, get_or-drop, drop-drop}
 use Rattle.std.proofs.lemmas.List.{length-map}

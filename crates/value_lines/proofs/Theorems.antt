@@ -1,5 +1,5 @@
--- What is proved of the meaning of the value lines: a file is its lines; the values are exactly the value lines, in order, each with its number; what a
--- comment, an empty line or another value changes; and what an answer says of its line. Assumes nothing.
+-- The values of a file are exactly its value lines, in order, each with its number; and what a comment, an empty line or another value changes.
+-- Assumes nothing.
 use Rattle.std.specs.Prelude.{◌≡◌, ◌⊎◌, Bool, true, false, cond, ℕ, suc, ◌+◌, ◌-◌}
 use Rattle.std.proofs.Math.Path.{refl, ap}
 use Rattle.std.proofs.Common.{sym, ◌∙◌, subst, inl, inr, arith}
