@@ -218,15 +218,17 @@ def one_name():
 
 
 def names(page, text, crate):
-    """Promises, theorems and `unique` are declared in the crate's specs, or in specs that the page cites, theorems also in its lemma files; meanings occur there."""
-    cited = [ROOT / path for path in set(re.findall(r"crates/\w+/specs/\w+\.antt", text)) if (ROOT / path).exists()]
-    specs = "\n".join(file.read_text() for file in [*crate.glob("specs/*.antt"), *cited])
-    declared, all_words = set(DECLARED.findall(specs)), set(re.findall(r"[\w'-]+", specs))
+    """Promises, theorems and `unique` are declared in the crate's specs, or in specs that the page cites, theorems also in the files of lemmas in proofs/; meanings occur there."""
+    cited = [ROOT / path for path in set(re.findall(r"crates/\w+/(?:specs|proofs)/\w+\.antt", text)) if (ROOT / path).exists()]
+    specs = "\n".join(file.read_text() for file in [*crate.glob("specs/*.antt"), *(file for file in cited if file.parent.name == "specs")])
+    lemmas = "\n".join(file.read_text() for file in [*crate.glob("proofs/*.antt"), *(file for file in cited if file.parent.name == "proofs")])
+    declared, all_words, theorems = set(DECLARED.findall(specs)), set(re.findall(r"[\w'-]+", specs)), set(DECLARED.findall(lemmas))
     for head, cell in cells(text):
         for span in spans(cell) if head in ("Promise", "Theorem", "One outcome", "Meaning") else []:
             first = re.match(r"[A-Z]\w+" if head == "Promise" else r"[a-zA-Z][\w-]+(?!\S*\.antt)", span)
             for name in spelled(first.group()) if first else []:
-                see(name in (all_words if head == "Meaning" else declared), f"{page}: {name} ({head}) is not in the specs")
+                known = name in (all_words if head == "Meaning" else declared) or (head == "Theorem" and name in theorems)
+                see(known, f"{page}: {name} ({head}) is not in the specs")
         if head == "Edit":
             see((crate / f"must-fail/{spans(cell)[0]}.edit").exists(), f"{page}: there is no edit {spans(cell)[0]}")
 

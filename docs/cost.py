@@ -31,7 +31,7 @@ def main():
     kinds, specs, functions = collections.Counter(), collections.Counter(), collections.Counter()
     for module, seconds in modules(pathlib.Path('crates') / name / 'out/incremental'):
         library, _, path = module.partition('.')
-        parts = path.split('.')[1:]
+        parts = path.split('.') if path else []
         if library == f'Rattle-{name}-specs' and parts:
             kinds['specs/'] += seconds
             specs['.'.join(parts)] += seconds

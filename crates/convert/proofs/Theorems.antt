@@ -1,9 +1,9 @@
--- What is proved of the meaning, without code: the floor; exact where the target has the bits, and back again; and two steps through a
--- format that loses nothing which the target would keep. Assumes nothing.
-use Rattle.std.specs.Prelude.{◌≡◌, ◌⊎◌, false, ℕ, ◌+◌, ◌*◌, ◌-◌, ◌^◌, ◌≤◌, ◌<◌, ℤ, pos, ◌*ℤ◌}
+-- Exact where the target has the bits, and back again; and two steps through a format that loses nothing which the target would keep.
+-- Assumes nothing.
+use Rattle.std.specs.Prelude.{◌≡◌, ◌⊎◌, false, ℕ, ◌+◌, ◌-◌, ◌^◌, ◌≤◌, ℤ, pos, ◌*ℤ◌}
 use Rattle.std.proofs.Common.{sym, ap, ap₂, ◌∙◌, subst, inl, inr, arith, mul_comm, pow_pos, pow-add}
 use Rattle.std.proofs.Math.Decide.{dec_le}
-use Rattle.laws.specs.Floor.{IsFloor, floor, shr_z-floor, shr_z-exact, shr_z-shr_z}
+use Rattle.laws.specs.Floor.{floor, shr_z-exact, shr_z-shr_z}
 use Rattle.laws.specs.Powers.{power-sub}
 use Rattle.laws.specs.Ring.{*ℤ-assoc}
 use Rattle.format.specs.declared.Manner.{Manner}

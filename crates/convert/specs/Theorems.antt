@@ -1,19 +1,11 @@
 -- What is proved of the meaning, without code: the floor; exact where the target has the bits, and back again; and two steps through a
 -- format that loses nothing which the target would keep. Assumes nothing.
-use Rattle.std.specs.Prelude.{◌≡◌, ◌⊎◌, false, ℕ, ◌+◌, ◌*◌, ◌-◌, ◌^◌, ◌≤◌, ◌<◌, ℤ, pos, ◌*ℤ◌}
-use Rattle.std.proofs.Common.{sym, ap, ap₂, ◌∙◌, subst, inl, inr, arith, mul_comm, pow_pos, pow-add}
-use Rattle.std.proofs.Math.Decide.{dec_le}
+use Rattle.std.specs.Prelude.{◌≡◌, ℕ, ◌*◌, ◌-◌, ◌^◌, ◌≤◌, ◌<◌, ℤ, pos, ◌*ℤ◌}
+use Rattle.std.proofs.Common.{sym, ap, ◌∙◌, mul_comm, pow_pos}
 use Rattle.laws.specs.Floor.{IsFloor, floor, shr_z-floor, shr_z-exact, shr_z-shr_z}
 use Rattle.laws.specs.Powers.{power-sub}
 use Rattle.laws.specs.Ring.{*ℤ-assoc}
-use Rattle.format.specs.declared.Manner.{Manner}
-use Rattle.format.specs.Meaning.{Sign, fault_of, settle, unless, done}
-use Rattle.format.specs.Fault.{fault-free, width-bounds}
-use Rattle.format.specs.Settle.{unless-none}
-use Rattle.format.specs.Theorems.{InRange}
-use Rattle.format.proofs.Theorems.{settle-fits}
-use Rattle.convert.specs.Fault.{formats-free}
-use Rattle.convert.specs.Meaning.{formats_fault, steps_of, convert_of}
+use Rattle.convert.specs.Meaning.{steps_of}
 
 -- ---- the steps are rounded toward minus infinity
 pub convert-floor : (ff f : ℕ) (a : ℤ) → IsFloor (a *ℤ pos (2 ^ f)) (2 ^ ff) (steps_of ff f a)

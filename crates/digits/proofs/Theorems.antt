@@ -1,6 +1,4 @@
--- What is proved of the meaning of a view: it stands for the digits of its run; what stands before it, the view and
--- what stands behind it make up the run, so its place is where its bytes are; the parts of a split make up the digits;
--- and every part is a view again. Assumes nothing.
+-- The bytes at the place of what comes after a split are its view. Assumes nothing.
 use Rattle.std.specs.Prelude.{◌≡◌, ℕ, length, take, drop}
 use mathlib.Core.List.{List, ◌++◌}
 use Rattle.digits.specs.Meaning.{unds_front, head_of, tail_of, from_of}

@@ -1,5 +1,4 @@
--- The rounding as the code has it: half a step less one is added, and one more where the whole part is odd, and the sum is shifted down. It is the
--- rounded number, since that is the only one within half a step and even at a tie; and no step of it leaves the word. Assumes nothing.
+-- The rounding as the code has it is the rounded number, since that is the only one within half a step and even at a tie. Assumes nothing.
 use Rattle.std.specs.Prelude.{◌≡◌, ℤ}
 use Rattle.filter.specs.Meaning.{rounded}
 use Rattle.filter.specs.Rounding.{rounded-is, near-unique}

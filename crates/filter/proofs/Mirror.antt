@@ -1,5 +1,4 @@
--- Samples the other way up: every sum, level and history is the other way up too, and so is an output but at -32768, which has no counterpart.
--- Assumes nothing.
+-- Samples the other way up: every sum and level is the other way up too. Assumes nothing.
 use Rattle.std.specs.Prelude.{◌≡◌, refl, List, [], ◌∷◌, ℤ, ◌*ℤ◌}
 use Rattle.std.proofs.Math.IntN.{neg_ℤ}
 use Rattle.laws.specs.Ring.{*ℤ-negʳ, +ℤ-neg}

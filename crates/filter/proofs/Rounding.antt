@@ -1,4 +1,4 @@
--- The laws of the rounding: it is the one whole number within half a step of p / 2^15 that is even at a tie; so it keeps the order, 0 and the sign.
+-- The laws of the rounding: it keeps the order and the sign, and is the one whole number within half a step of p / 2^15 that is even at a tie.
 -- Nothing above looks further into it. Assumes nothing.
 use Rattle.std.specs.Prelude.{◌≡◌, ◌*◌, ◌%◌, ◌^◌, ◌≤◌, ℤ, pos, neg_ℤ, nat_abs, ◌-ℤ◌, ◌*ℤ◌, ◌≤ℤ◌}
 use Rattle.filter.specs.Meaning.{rounded}

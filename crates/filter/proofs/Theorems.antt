@@ -1,4 +1,4 @@
--- What is proved of the filter: of one output, of its exact sum, and of a run. Assumes nothing.
+-- What is proved of one output and of its exact sum, and of a run of negated samples. Assumes nothing.
 use Rattle.std.specs.Prelude.{◌≡◌, refl, ◌↔◌, Bool, true, false, List, [], ◌∷◌, ◌*◌, ◌%◌, ◌^◌, ◌≤◌, ℤ, neg_ℤ, nat_abs, ◌*ℤ◌, length}
 use Rattle.std.proofs.Common.{ap, arith, SFits}
 use Rattle.std.specs.Int.{w64}

@@ -1,18 +1,14 @@
 -- The three ways out of `read`, put into the promised outcome: a refusal before anything is written, a refused line, and the taps. Assumes nothing.
-use Rattle.std.proofs.Math.Path.{◌≡◌, ap}
-use Rattle.std.specs.Prelude.{refl, ◌⊎◌, Bool, List, [], ◌∷◌, map, ℕ, ◌≤◌, eqb, ℤ, length, take, drop}
-use Rattle.std.proofs.Common.{sym, ◌∙◌, inl, inr, arith, length-append, take_at}
+use Rattle.std.proofs.Math.Path.{◌≡◌}
+use Rattle.std.specs.Prelude.{refl, Bool, List, [], ◌∷◌, map, ℕ, ◌≤◌, eqb, ℤ, length, take, drop}
+use Rattle.std.proofs.Common.{sym, ◌∙◌, arith, length-append, take_at}
 use Rattle.std.proofs.Math.Bool.{true, false, cond}
 use Rattle.std.proofs.lemmas.List.{length-map}
 use Rattle.format.specs.Meaning.{guarded}
-use Rattle.filter.specs.Refuse.{which}
-use Rattle.value_lines.specs.Meaning.{ValueLine, values_of, line_number, raw_at, number_at, over}
-use Rattle.value_lines.specs.Store.{AllEntered}
+use Rattle.value_lines.specs.Meaning.{ValueLine, values_of, number_at, over}
 use Rattle.fitting.specs.declared.FileAnswer.{FileAnswer}
 use Rattle.fitting.specs.declared.FileAnswer.TheVariants.{Done, Refused, Line}
 use Rattle.fitting.specs.Meaning.{judge, accepted, file_fault, Fitted, fitted, listed}
-use Rattle.fitting.specs.Room.{checked_of, Room, fault-none}
-use Rattle.fitting.specs.Judge.{judged_of, judged-is}
 
 -- no answer that is done
 abbrev pub NotDone : FileAnswer → Type 0
@@ -46,14 +42,14 @@ judge-not n (v ∷ vs) e m d = go (eqb (number_at v) 0) (λ h. judge-not n vs h 
     go true h e d = h e d
     go false h e d = let z : ◌≡◌ {A = ℕ} 0 1 = cc in omega arith
 
-accepted-or : (n : ℕ) (vs : List ValueLine) → NotDone (judge n vs) → accepted vs ≡ false
+pub accepted-or : (n : ℕ) (vs : List ValueLine) → NotDone (judge n vs) → accepted vs ≡ false
 accepted-or n vs h = go (accepted vs) refl
   where
     go : (b : Bool) → accepted vs ≡ b → b ≡ false
     go true e = absurd (h n (judge-done n vs e))
     go false e = refl
 
-accepted-and : (n m : ℕ) (vs : List ValueLine) → judge n vs ≡ Done m → accepted vs ≡ true
+pub accepted-and : (n m : ℕ) (vs : List ValueLine) → judge n vs ≡ Done m → accepted vs ≡ true
 accepted-and n m vs h = go (accepted vs) refl
   where
     go : (b : Bool) → accepted vs ≡ b → b ≡ true
@@ -67,67 +63,3 @@ roomy_of a b c file lines raws answers taps =
     guarded (file_fault (length file) (length (values_of file)) a b c (length taps))
     (λ n. fitted (Refused n) lines raws answers taps)
     (listed (values_of file) lines raws answers taps)
-
--- ---- the three ways out
-module _ (a b c : ℕ) (file lines : List ℕ) (raws : List ℤ) (answers : List ℕ) (taps : List ℤ) where
-  abbrev fault : ℕ
-  fault = file_fault (length file) (length (values_of file)) a b c (length taps)
-
-  pub refused-first : {r : FileAnswer} → r ≡ checked_of file a b c (length taps) → NotDone r
-      → fitted r lines raws answers taps ≡ roomy_of a b c file lines raws answers taps
-  unfolding checked_of roomy_of guarded
-  refused-first {r} e h = go (eqb fault 0) e
-    where
-      go : (b : Bool) → r ≡ cond b (Done (length (values_of file))) (Refused fault)
-          → fitted r lines raws answers taps ≡ cond b (listed (values_of file) lines raws answers taps) (fitted (Refused fault) lines raws answers taps)
-      go true e = absurd (h (length (values_of file)) e)
-      go false e = ap (λ (x : FileAnswer). fitted x lines raws answers taps) e
-
-  -- nothing is refused before
-  pub record Checked (n : ℕ) : Type 0 where
-    pub none : fault ≡ 0
-    pub count : n ≡ length (values_of file)
-    pub room : Room (length file) (length (values_of file)) a b c (length taps)
-
-  pub checked-done : {r : FileAnswer} {n : ℕ} → r ≡ checked_of file a b c (length taps) → r ≡ Done n → Checked n
-  unfolding checked_of
-  checked-done {r} {n} e d = go (which fault (λ k. Refused k) (Done (length (values_of file))) (sym d ∙ e))
-    where
-      go : ((fault ≡ 0) × (Done n ≡ Done (length (values_of file)))) ⊎ (Done n ≡ Refused fault) → Checked n
-      go (inl h) =
-          let same = h.1 in
-          record { none = h.0; count = cc; room = fault-none (length file) (length (values_of file)) a b c (length taps) h.0 }
-      go (inr h) = let z : ◌≡◌ {A = ℕ} 0 1 = cc in absurd (omega arith)
-
-  module _ {n : ℕ} {l : List ℕ} {r : List ℤ} {w : List ℕ} {answer : FileAnswer} (known : Checked n)
-      (stored : AllEntered (values_of file) lines raws answers l r w)
-      (judged : answer ≡ judged_of n (take n l) (take n w)) where
-    abbrev vs : List ValueLine
-    vs = values_of file
-
-    says : answer ≡ judge (length vs) vs
-    says =
-        let first = ap (take n) stored.lines_are ∙ over-take line_number vs lines n known.count in
-        let second = ap (take n) stored.answers-are ∙ over-take number_at vs answers n known.count in
-        judged ∙ rw (first, second, known.count) (judged-is (length vs) vs)
-
-    closed : {t : List ℤ} → t ≡ cond (accepted vs) (over (map raw_at vs) taps) taps → fitted answer l r w t ≡ roomy_of a b c file lines raws answers taps
-    unfolding roomy_of guarded
-    closed e = rw (says, stored.lines_are, stored.raws-are, stored.answers-are, e, known.none)
-
-    pub refused-line : NotDone answer → fitted answer l r w taps ≡ roomy_of a b c file lines raws answers taps
-    refused-line h =
-        let no-taps = accepted-or (length vs) vs (λ m d. h m (says ∙ d)) in
-        closed (rw no-taps)
-
-    pub done-count : {m : ℕ} → answer ≡ Done m → m ≡ length vs
-    done-count {m} d =
-        let yes-taps = accepted-and (length vs) m vs (sym says ∙ d) in
-        let told : Done m ≡ Done (length vs) = sym d ∙ says ∙ judge-done (length vs) vs yes-taps in
-        cc
-
-    pub all_done : {m : ℕ} {t : List ℤ} → answer ≡ Done m → t ≡ over (take m r) taps → fitted (Done m) l r w t ≡ roomy_of a b c file lines raws answers taps
-    all_done {m} {t} d e =
-        let yes-taps = accepted-and (length vs) m vs (sym says ∙ d) in
-        let kept = ap (take m) stored.raws-are ∙ over-take raw_at vs raws m (done-count d) in
-        ap (λ (x : FileAnswer). fitted x l r w t) (sym d) ∙ closed (e ∙ rw (kept, yes-taps))

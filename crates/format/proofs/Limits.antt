@@ -1,5 +1,5 @@
--- A number as a sign and a magnitude, placed in a format by the magnitude alone: what the code tests and computes, and that it is
--- what the meaning says. Assumes nothing.
+-- A number as a sign and a magnitude is in the range exactly if the magnitude is within the limit on its side, and is held to that limit.
+-- Assumes nothing.
 use Rattle.std.specs.Prelude.{◌≡◌, Bool, cond, ℕ, ◌≤◌, ◌<◌, min, leb}
 use Rattle.std.proofs.Math.Path.{ap}
 use Rattle.std.proofs.Common.{sym, ◌∙◌, arith}

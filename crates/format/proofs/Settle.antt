@@ -1,5 +1,5 @@
--- The four manners from what the code finds of a number: whether its magnitude is within the limit on its side, the magnitude held
--- to that limit, and the raw that the residue stands for. One law a manner, over the width and the sign. Assumes nothing.
+-- What settles a number in the strict, saturating and overflowing manner, from what the code finds of it: whether its magnitude is within the limit
+-- on its side, and the magnitude held to that limit. Assumes nothing.
 use Rattle.std.specs.Prelude.{◌≡◌, Bool, true, false, ℕ, ◌+◌, ◌*◌, ◌^◌, ◌≤◌, min, leb, ℤ}
 use Rattle.std.proofs.Math.Path.{sym, ap, ap₂}
 use Rattle.std.proofs.Common.{◌∙◌, arith}

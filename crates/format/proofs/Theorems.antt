@@ -1,5 +1,5 @@
--- What is proved of the range and the four manners, once over the width and the sign. A range is `count` numbers from its lowest
--- on, so each law is one of the floor of (x - lowest) / 2^W. Assumes nothing.
+-- What is proved of holding and of the four manners, once over the width and the sign: a held number is in the range, and none of the range is
+-- nearer; and what each manner makes of a number, whether it fits or not. Assumes nothing.
 use Rattle.std.proofs.Math.Path.{◌≡◌, refl, sym}
 use Rattle.std.proofs.Common.{subst, inl, inr, arith}
 use Rattle.std.specs.Prelude.{◌⊎◌, ◌↔◌, Bool, not, ℕ, ◌≤◌, ◌<◌, ℤ, negsuc, nat_abs, ◌-ℤ◌, ◌≤ℤ◌, ◌<ℤ◌}

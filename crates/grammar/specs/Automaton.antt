@@ -1,6 +1,6 @@
 -- The scan as an automaton, for the proofs: a part of the number, what was read of it, and the number so far; a step for each byte. Agrees.antt shows that
 -- it reads what the meaning reads. Assumes nothing.
-use Rattle.std.specs.Prelude.{Bool, false, cond, List, [], ◌∷◌, ◌++◌, ℕ, ◌+◌, ◌*◌, leb, ltb, eqb, length}
+use Rattle.std.specs.Prelude.{Bool, false, cond, List, [], ◌∷◌, ℕ, ◌+◌, ◌*◌, leb, ltb, eqb, length}
 use Rattle.format.specs.declared.Manner.{Manner}
 use Rattle.format.specs.Meaning.{Sign, Outcome, refused, settle, with_sign}
 use Rattle.grammar.specs.Meaning.{digit_of, is_sign, is_bit_mark, is_mark, Written, Reading, number, unread, exp_limit, blank}

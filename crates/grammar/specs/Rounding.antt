@@ -4,7 +4,7 @@ use Rattle.std.specs.Prelude.{◌≡◌, ◌⊎◌, Bool, [], ◌∷◌, ◌++�
 use Rattle.std.proofs.Common.{sym, ap, ◌∙◌, inl, inr, mul-pos, mul-le-mul, pow-suc, mul-le-mul_left, mul-le-mul_right, add-one, arith, pow_pos, pow_mono, pow-add}
 use Rattle.std.proofs.Math.Bool.{true, false, cond}
 use Rattle.std.proofs.Math.Nat.{one-le-pow, pow-le-pow_left, pow-zero}
-use Rattle.laws.specs.Diff.{up, dn, add-out}
+use Rattle.laws.specs.Diff.{add-out}
 use Rattle.laws.specs.Order.{mul-out}
 use Rattle.laws.specs.Signed.{signed as kit}
 use Rattle.laws.specs.Nearest.{nearest_even, nearest-same, nearest-none, nearest-least, nearest-exact}

@@ -1,6 +1,6 @@
 -- A run of digits, and what the scan makes of it: it takes the whole run in one go. Before the mark there are two parts, told apart
 -- by a Bool: false for the whole part, true for the fraction. Assumes nothing.
-use Rattle.std.specs.Prelude.{◌≡◌, Bool, cond, ◌&&◌, ◌||◌, ℕ, zero, suc, ◌+◌, ◌-◌, length, take, drop}
+use Rattle.std.specs.Prelude.{◌≡◌, Bool, cond, ◌&&◌, ◌||◌, ℕ, zero, suc, ◌+◌, length, take, drop}
 use Rattle.std.proofs.Math.Path.{refl, ap}
 use Rattle.std.proofs.Common.{sym, ◌∙◌, add-zero, arith, eqb-true}
 use Rattle.std.proofs.Math.Bool.{true, false}

@@ -1,16 +1,14 @@
 -- What is proved of the meaning of the value lines: a file is its lines; the values are exactly the value lines, in order, each with its number; what a
 -- comment, an empty line or another value changes; and what an answer says of its line. Assumes nothing.
-use Rattle.std.specs.Prelude.{◌≡◌, ◌⊎◌, Bool, true, false, cond, ℕ, suc, ◌+◌, ◌-◌, ◌≤◌, pos, get_or}
+use Rattle.std.specs.Prelude.{◌≡◌, Bool, true, false, cond, ℕ, suc, ◌+◌, ◌-◌, ◌≤◌, pos, get_or}
 use Rattle.std.proofs.Math.Path.{refl, ap}
-use Rattle.std.proofs.Common.{sym, ◌∙◌, subst, inl, inr, arith, ne_eqb}
-use mathlib.Core.List.{List, [], ◌∷◌, ◌++◌, map, map-append, append-nil, append_assoc, Memᴰ}
-use mathlib.Core.List.Memᴰ
+use Rattle.std.proofs.Common.{sym, ◌∙◌, arith, ne_eqb}
+use mathlib.Core.List.{List, [], ◌∷◌, ◌++◌, map, append-nil, append_assoc, Memᴰ}
 use Rattle.std.proofs.Math.ListN.{length}
 use Rattle.format.specs.Meaning.{signed, Outcome, done, refused, signed_answer, number_s, value_s}
 use Rattle.grammar.specs.Meaning.{literal_of}
 use Rattle.grammar.specs.Theorems.{Early, width, frac, base, size, literal-early}
-use Rattle.value_lines.specs.Meaning.{line_feed, onto, lines_of, is_value, ValueLine, value_line, values_from, values_of, answer_of, raw_at, number_at}
-use Rattle.value_lines.specs.Lines.{value-more, value-skip}
+use Rattle.value_lines.specs.Meaning.{line_feed, onto, lines_of, is_value, ValueLine, value_line, values_from, answer_of, raw_at, number_at}
 
 -- ---- A file is its lines.
 -- a line holds no LF
@@ -73,10 +71,6 @@ texts-from n (line ∷ lines) = go (is_value line) (texts-from (n + 1) lines)
     go true h = ap (λ (l : List (List ℕ)). line ∷ l) h
     go false h = h
 
-pub values-are : (file : List ℕ) → map line_text (values_of file) ≡ only (lines_of file)
-unfolding values_of
-values-are file = texts-from 1 (lines_of file)
-
 -- what stands in the list depends on the texts alone
 pub raws-of : (vs ws : List ValueLine) → map line_text vs ≡ map line_text ws → (map raw_at vs ≡ map raw_at ws) × (map number_at vs ≡ map number_at ws)
 unfolding raw_at number_at
@@ -93,39 +87,6 @@ raws-of (v ∷ vs) (w ∷ ws) e =
 pub record Numbered (n : ℕ) (lines : List (List ℕ)) (v : ValueLine) : Type 0 where
   pub at_least : n ≤ v.number
   pub is-line : get_or lines (v.number - n) [] ≡ v.text
-
-numbered-from : (n : ℕ) (lines : List (List ℕ)) (v : ValueLine) → Memᴰ v (values_from n lines) → Numbered n lines v
-unfolding values_from
-numbered-from n [] v m = absurd (Memᴰ.not-nil m)
-numbered-from n (line ∷ lines) v m = go (is_value line) (λ h. numbered-from (n + 1) lines v h) m
-  where
-    later : Numbered (n + 1) lines v → Numbered n (line ∷ lines) v
-    later h =
-        let step : v.number - n ≡ suc (v.number - (n + 1)) = omega (arith, h.at_least) in
-        record { at_least = omega (arith, h.at_least); is-line = rw step h.is-line }
-
-    here : v ≡ value_line n line → Numbered n (line ∷ lines) v
-    here e =
-        let zero : n - n ≡ 0 = omega arith in
-        subst (λ (u : ValueLine). Numbered n (line ∷ lines) u) (sym e) (record { at_least = omega arith; is-line = rw zero })
-
-    either : (v ≡ value_line n line) ⊎ Numbered (n + 1) lines v → Numbered n (line ∷ lines) v
-    either (inl e) = here e
-    either (inr h) = later h
-
-    split : (v ≡ value_line n line) ⊎ Memᴰ v (values_from (n + 1) lines) → (Memᴰ v (values_from (n + 1) lines) → Numbered (n + 1) lines v)
-        → Numbered n (line ∷ lines) v
-    split (inl e) f = either (inl e)
-    split (inr h) f = either (inr (f h))
-
-    go : (b : Bool) → (Memᴰ v (values_from (n + 1) lines) → Numbered (n + 1) lines v)
-        → Memᴰ v (cond b (value_line n line ∷ values_from (n + 1) lines) (values_from (n + 1) lines)) → Numbered n (line ∷ lines) v
-    go true f m = split (Memᴰ.cases_cons m) f
-    go false f m = later (f m)
-
-pub values-numbered : (file : List ℕ) (v : ValueLine) → Memᴰ v (values_of file) → Numbered 1 (lines_of file) v
-unfolding values_of
-values-numbered file v m = numbered-from 1 (lines_of file) v m
 
 -- ---- What one line changes. The values of some lines and then others:
 pub values-append : (n : ℕ) (lines others : List (List ℕ)) → values_from n (lines ++ others) ≡ values_from n lines ++ values_from (n + length lines) others
@@ -157,49 +118,6 @@ values-later n (line ∷ lines) = go (is_value line) (values-later (n + 1) lines
         ≡ map later (cond b (value_line n line ∷ values_from (n + 1) lines) (values_from (n + 1) lines))
     go true h = ap (λ (l : List ValueLine). value_line (n + 1) line ∷ l) h
     go false h = h
-
--- the values of the lines before a place, and of the text after it
-module _ (lines : List (List ℕ)) (before : NoFeeds lines) (file : List ℕ) where
-  abbrev first : List ValueLine
-  first = values_from 1 lines
-
-  abbrev rest : List ValueLine
-  rest = values_from (1 + length lines) (lines_of file)
-
-  pub cut : values_of (joined_lines lines ++ file) ≡ first ++ rest
-  unfolding values_of
-  cut = ap (values_from 1) (lines-before file before) ∙ values-append 1 lines (lines_of file)
-
-  -- Adding a comment or an empty line between two lines: the values before it stay, those after it have the next line number, and no raw or answer changes.
-  module _ (skipped : List ℕ) (whole : NoFeed skipped) (skip : is_value skipped ≡ false) where
-    pub skipped-line : values_of (joined_lines lines ++ (skipped ++ line_feed ∷ file)) ≡ first ++ map later rest
-    unfolding values_of
-    skipped-line =
-        let there = lines-before (skipped ++ line_feed ∷ file) before ∙ ap (λ (l : List (List ℕ)). lines ++ l) (line-cut skipped file whole) in
-        ap (values_from 1) there ∙ values-append 1 lines (skipped ∷ lines_of file)
-        ∙ ap (λ (l : List ValueLine). first ++ l) (value-skip (1 + length lines) skipped (lines_of file) skip ∙ values-later (1 + length lines) (lines_of file))
-
-    later-text : (vs : List ValueLine) → map line_text (map later vs) ≡ map line_text vs
-    unfolding later
-    later-text [] = refl
-    later-text (v ∷ vs) = rw (later-text vs)
-
-    pub skipped-raws : (map raw_at (values_of (joined_lines lines ++ (skipped ++ line_feed ∷ file))) ≡ map raw_at (values_of (joined_lines lines ++ file)))
-        × (map number_at (values_of (joined_lines lines ++ (skipped ++ line_feed ∷ file))) ≡ map number_at (values_of (joined_lines lines ++ file)))
-    skipped-raws =
-        raws-of (values_of (joined_lines lines ++ (skipped ++ line_feed ∷ file))) (values_of (joined_lines lines ++ file))
-        (ap (map line_text) skipped-line ∙ map-append line_text first (map later rest)
-        ∙ rw (later-text rest) (sym (ap (map line_text) cut ∙ map-append line_text first rest)))
-
-  -- One value line in place of another: no other value changes.
-  pub changed-line : (line : List ℕ) → NoFeed line → is_value line ≡ true
-      → values_of (joined_lines lines ++ (line ++ line_feed ∷ file)) ≡ first
-      ++ value_line (1 + length lines) line ∷ values_from (1 + length lines + 1) (lines_of file)
-  unfolding values_of
-  changed-line line whole value =
-      let there = lines-before (line ++ line_feed ∷ file) before ∙ ap (λ (l : List (List ℕ)). lines ++ l) (line-cut line file whole) in
-      ap (values_from 1) there ∙ values-append 1 lines (line ∷ lines_of file)
-      ∙ ap (λ (l : List ValueLine). first ++ l) (value-more (1 + length lines) line (lines_of file) value)
 
 -- ---- An answer in the list is 0 exactly if the line is a literal of the format, and then the raw is its value; a refused line has raw 0.
 outcome-zero : (line : List ℕ) → literal_of signed 16 15 line ≡ refused 0 → ⊥

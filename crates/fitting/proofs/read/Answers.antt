@@ -4,7 +4,8 @@ use native.Mathlib.Omega.{arith}
 use lib.ListN.{length}
 use Rattle.value_lines.specs.Meaning.{line_number, raw_at, number_at, values_of}
 use Rattle.fitting.specs.Meaning.{fitted_of}
-use Rattle.fitting.specs.Read.{roomy_of, over-long, refused-first, checked-done, refused-line, done-count, all_done}
+use Rattle.fitting.specs.Read.{roomy_of, over-long}
+use Rattle.fitting.proofs.Reading.{refused-first, checked-done, refused-line, done-count, all_done}
 use Rattle.fitting.proofs.read.Goals as goal
 
 pub returns-in_default : goal.returns-in_default

@@ -4,7 +4,8 @@ use Rattle.value_lines.specs.Meaning.{line_number, raw_at, number_at, values_of}
 use Rattle.fitting.specs.declared.FileAnswer.{FileAnswer}
 use Rattle.fitting.specs.declared.FileAnswer.TheVariants.{Done}
 use Rattle.fitting.specs.Room.{checked_of}
-use Rattle.fitting.specs.Read.{over-long, refused-first, Checked, checked-done, refused-line, done-count, all_done}
+use Rattle.fitting.specs.Read.{over-long}
+use Rattle.fitting.proofs.Reading.{refused-first, Checked, checked-done, refused-line, done-count, all_done}
 use Rattle.fitting_list.specs.Records.{zero-places, signed-zeros, count_none, count-some}
 use Rattle.fitting_list.proofs.find.Goals as goal
 

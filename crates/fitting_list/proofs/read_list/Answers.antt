@@ -1,8 +1,6 @@
 -- `fitting_list::read_list` meets its promise: the list starts as the one lent, each turn stores one entry more, and at
 -- the end it is the promised one (`handed`). Assumes nothing.
 use Rattle.std.proofs.Common.{◌≡◌, ◌∙◌, ap, sym, arith, length, length-set}
-use Rattle.std.proofs.Math.ListN.{set}
-use Rattle.fitting_list.specs.Meaning.{records, records_of}
 use Rattle.fitting_list.specs.Filled.{filled, filled_zero, filled_next, count_small, handed}
 use Rattle.fitting_list.proofs.read_list.Goals as goal
 

@@ -1,10 +1,6 @@
 -- `run::run_end` meets its contract. The invariant: from here the run ends where it ends from the start. Assumes nothing.
 use Rattle.std.proofs.Common.{rules}
-use Prim.Native.Nat.{◌≤◌, ◌+◌, ◌-◌}
-use mathlib.Core.Path.{◌≡◌, refl}
-use native.Mathlib.Omega.{arith}
-use lib.ListN.{length, drop}
-use Rattle.grammar.specs.Run.{run_more}
+use mathlib.Core.Path.{refl}
 use Rattle.run.specs.Run.{run-next, run-stop, run-over}
 use Rattle.run.proofs.run_end.Goals as goal
 

@@ -1,10 +1,8 @@
 -- `run::run_end` meets its contract. The invariant: from here the run ends where it ends from the start. Assumes nothing.
 use Prim.Native.Nat.{◌≤◌, ◌+◌, ◌-◌}
-use mathlib.Core.Path.{◌≡◌, refl}
-use native.Mathlib.Omega.{arith}
+use mathlib.Core.Path.{◌≡◌}
 use lib.ListN.{length, drop}
 use Rattle.grammar.specs.Run.{run_more}
-use Rattle.run.specs.Run.{run-next, run-stop, run-over}
 use Rattle.run.proofs.run_end.Given as goal
 
 abbrev pub invariant-loop-i : goal.invariant-loop-i

@@ -1,10 +1,8 @@
 -- `tens::lifted` meets its contract. The invariant: the number with k zeros. From 64 zeros on only whether it is 0 is left (`lift-far`).
 -- Assumes nothing.
-use mathlib.Core.Path.{◌≡◌, ◌∙◌, ap}
-use Prim.Native.Nat.{ℕ, ◌-◌, ◌*◌, ◌^◌, ◌≤◌}
-use native.Mathlib.Omega.{arith}
+use mathlib.Core.Path.{◌≡◌}
+use Prim.Native.Nat.{◌-◌, ◌*◌, ◌^◌, ◌≤◌}
 use Rattle.fold.specs.Fold.{fold_of, folded_value}
-use Rattle.tens.specs.Tens.{lift-far, lift-next, lift-start, lift-end}
 use Rattle.tens.proofs.lifted.Given as goal
 
 abbrev pub invariant-loop-k : goal.invariant-loop-k

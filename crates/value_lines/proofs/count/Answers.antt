@@ -3,7 +3,8 @@ use mathlib.Core.Path.{sym, ap, ◌∙◌}
 use native.Mathlib.Omega.{arith}
 use lib.ListN.{length}
 use Rattle.value_lines.specs.Meaning.{values_of}
-use Rattle.value_lines.specs.Lines.{line-within, count-value, count-skip, at-end}
+use Rattle.value_lines.specs.Lines.{line-within, at-end}
+use Rattle.value_lines.proofs.Lines.{count-value, count-skip}
 use Rattle.value_lines.proofs.count.Goals as goal
 use Rattle.value_lines.proofs.count.Goals.{then-is_value, else-is_value}
 
@@ -46,7 +47,7 @@ loop-at-preserved c =
     let is = c.is_value.ensures in
     let within = line-within a.file.now l.at here line in
     elim c.if-is_value.branch [
-      then-is_value w ↦ (omega arith, (omega arith, omega (arith, count-value a.file.now l.at here line (sym is ∙ w.if-is_value.true))))
+      | then-is_value w ↦ (omega arith, (omega arith, omega (arith, count-value a.file.now l.at here line (sym is ∙ w.if-is_value.true))))
       | else-is_value w ↦ (omega arith, (omega arith, omega (arith, count-skip a.file.now l.at here line (sym is ∙ w.if-is_value.false))))
     ]
 

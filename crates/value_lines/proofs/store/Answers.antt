@@ -1,7 +1,8 @@
 -- `value_lines::store` meets its contract. The loop's invariant: the lines before place `at` are through. Assumes nothing.
 use native.Mathlib.Omega.{arith}
 use Rattle.value_lines.specs.Lines.{line-within}
-use Rattle.value_lines.specs.Store.{start, has-place, more, end}
+use Rattle.value_lines.specs.Store.{start}
+use Rattle.value_lines.proofs.Storing.{has-place, more, end}
 use Rattle.value_lines.proofs.store.Goals as goal
 
 pub loop-at-init : goal.loop-at-init

@@ -1,11 +1,7 @@
 -- `byte_order::bytes::read_be` meets its contract. The invariant: what is left of the bytes, read behind r, gives the result. Assumes nothing.
 use Rattle.std.proofs.Common.{rules}
 use Rattle.byte_order.specs.Bytes.{word_next, below_next, be-next, be-end}
-use lib.ListN.{length, drop}
-use Prim.Native.Nat.{◌*◌, ◌-◌, ◌^◌, ◌≤◌, ◌<◌}
-use mathlib.Core.Path.{◌≡◌}
 use native.Mathlib.Omega.{arith}
-use Rattle.byte_order.specs.Meaning.{from_be}
 use Rattle.byte_order.proofs.bytes.read_be.Goals as goal
 
 pub overflow_mul-r : goal.overflow_mul-r

@@ -2,11 +2,9 @@
 use Rattle.std.proofs.Common.{rules}
 use lib.Pow.{pow_pos}
 use Rattle.byte_order.specs.Bytes.{word_next, below-back, le-start, le_next, le-end}
-use lib.ListN.{length, drop}
-use Prim.Native.Nat.{◌*◌, ◌-◌, ◌^◌, ◌≤◌, ◌<◌}
-use mathlib.Core.Path.{◌≡◌}
+use lib.ListN.{length}
+use Prim.Native.Nat.{◌*◌, ◌-◌}
 use native.Mathlib.Omega.{arith}
-use Rattle.byte_order.specs.Meaning.{from_le}
 use Rattle.byte_order.proofs.bytes.read_le.Goals as goal
 
 pub loop-i-init : goal.loop-i-init

@@ -1,10 +1,7 @@
 -- `byte_order::bytes::read_le` meets its contract. The invariant: r is the number of the bytes from i on. Assumes nothing.
-use lib.Pow.{pow_pos}
-use Rattle.byte_order.specs.Bytes.{word_next, below-back, le-start, le_next, le-end}
 use lib.ListN.{length, drop}
 use Prim.Native.Nat.{◌*◌, ◌-◌, ◌^◌, ◌≤◌, ◌<◌}
 use mathlib.Core.Path.{◌≡◌}
-use native.Mathlib.Omega.{arith}
 use Rattle.byte_order.specs.Meaning.{from_le}
 use Rattle.byte_order.proofs.bytes.read_le.Given as goal
 

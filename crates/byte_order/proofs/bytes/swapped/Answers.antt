@@ -3,8 +3,6 @@ use Rattle.std.proofs.Common.{rules}
 use Prim.Native.Nat.{ℕ, ◌%◌}
 use mathlib.Core.Path.{ap}
 use Rattle.byte_order.specs.Bytes.{word_next, below_next, swap-next, swap-end}
-use Prim.Native.Nat.{◌*◌, ◌-◌, ◌^◌, ◌≤◌, ◌<◌}
-use mathlib.Core.Path.{◌≡◌}
 use native.Mathlib.Omega.{arith}
 use Rattle.byte_order.specs.Meaning.{le_bytes, from_be}
 use Rattle.byte_order.proofs.bytes.swapped.Goals as goal

@@ -1,10 +1,6 @@
 -- `byte_order::bytes::swapped` meets its contract. The invariant: what is left of the bytes, read behind r, gives the result. Assumes nothing.
-use Prim.Native.Nat.{ℕ, ◌%◌}
-use mathlib.Core.Path.{ap}
-use Rattle.byte_order.specs.Bytes.{word_next, below_next, swap-next, swap-end}
 use Prim.Native.Nat.{◌*◌, ◌-◌, ◌^◌, ◌≤◌, ◌<◌}
 use mathlib.Core.Path.{◌≡◌}
-use native.Mathlib.Omega.{arith}
 use Rattle.byte_order.specs.Meaning.{le_bytes, from_be}
 use Rattle.byte_order.proofs.bytes.swapped.Given as goal
 

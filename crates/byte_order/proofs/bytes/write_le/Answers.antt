@@ -4,10 +4,7 @@ use Rattle.std.proofs.Common.{rules}
 use Prim.Native.Nat.{ℕ}
 use mathlib.Core.Path.{ap}
 use Rattle.byte_order.specs.Bytes.{store-next, kept_next, store-end}
-use lib.ListN.{length, take, drop}
-use mathlib.Core.List.{◌++◌}
-use Prim.Native.Nat.{◌-◌, ◌≤◌}
-use mathlib.Core.Path.{◌≡◌, refl}
+use mathlib.Core.Path.{refl}
 use native.Mathlib.Omega.{arith}
 use Rattle.byte_order.specs.Meaning.{le_bytes}
 use Rattle.byte_order.proofs.bytes.write_le.Goals as goal

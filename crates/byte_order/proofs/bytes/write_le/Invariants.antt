@@ -1,13 +1,9 @@
 -- `byte_order::bytes::write_le` meets its contract. The invariant: what stands there and what is to
 -- come make the bytes, and the rest is as it was. Assumes nothing.
-use Prim.Native.Nat.{ℕ}
-use mathlib.Core.Path.{ap}
-use Rattle.byte_order.specs.Bytes.{store-next, kept_next, store-end}
 use lib.ListN.{length, take, drop}
 use mathlib.Core.List.{◌++◌}
 use Prim.Native.Nat.{◌-◌, ◌≤◌}
-use mathlib.Core.Path.{◌≡◌, refl}
-use native.Mathlib.Omega.{arith}
+use mathlib.Core.Path.{◌≡◌}
 use Rattle.byte_order.specs.Meaning.{le_bytes}
 use Rattle.byte_order.proofs.bytes.write_le.Given as goal
 

@@ -1,9 +1,7 @@
 -- `fold::body::any_nonzero` meets its contract. The invariant: what is left has a digit that is not 0 exactly if the whole has. Assumes nothing.
-use mathlib.Core.Path.{◌≡◌, refl, sym, ◌∙◌}
-use Prim.Native.Nat.{◌-◌, ◌≤◌}
+use mathlib.Core.Path.{refl, sym, ◌∙◌}
 use native.Mathlib.Omega.{arith}
-use lib.ListN.{length}
-use Rattle.fold.specs.Body.{digits_at, any_of, any_here, any-later, any-end}
+use Rattle.fold.specs.Body.{any_here, any-later, any-end}
 use Rattle.fold.proofs.body.any_nonzero.Goals as goal
 
 pub loop-i-init : goal.loop-i-init

@@ -1,9 +1,8 @@
 -- `fold::body::any_nonzero` meets its contract. The invariant: what is left has a digit that is not 0 exactly if the whole has. Assumes nothing.
-use mathlib.Core.Path.{◌≡◌, refl, sym, ◌∙◌}
+use mathlib.Core.Path.{◌≡◌}
 use Prim.Native.Nat.{◌-◌, ◌≤◌}
-use native.Mathlib.Omega.{arith}
 use lib.ListN.{length}
-use Rattle.fold.specs.Body.{digits_at, any_of, any_here, any-later, any-end}
+use Rattle.fold.specs.Body.{digits_at, any_of}
 use Rattle.fold.proofs.body.any_nonzero.Given as goal
 
 abbrev pub invariant-loop-i : goal.invariant-loop-i

@@ -1,8 +1,6 @@
 -- `fold::body::fold_digits` meets its contract. The invariant: k digits are taken. Assumes nothing.
-use mathlib.Core.Path.{◌≡◌, subst}
-use Prim.Native.Nat.{ℕ, ◌-◌, ◌≤◌}
-use native.Mathlib.Omega.{arith}
-use Rattle.fold.specs.Body.{Taken, taken_none, taken_more}
+use Prim.Native.Nat.{◌-◌, ◌≤◌}
+use Rattle.fold.specs.Body.{Taken}
 use Rattle.fold.proofs.body.fold_digits.Given as goal
 
 abbrev pub invariant-loop-k : goal.invariant-loop-k

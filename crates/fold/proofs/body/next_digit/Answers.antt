@@ -1,9 +1,7 @@
 -- `fold::body::next_digit` meets its contract. The invariant: the bytes passed have no digit. Assumes nothing.
-use mathlib.Core.Path.{◌≡◌, refl, sym, ◌∙◌}
-use Prim.Native.Nat.{◌-◌, ◌≤◌}
+use mathlib.Core.Path.{refl, sym, ◌∙◌}
 use native.Mathlib.Omega.{arith}
-use lib.ListN.{length}
-use Rattle.fold.specs.Body.{digits_at, from-gap, next-found, next-none}
+use Rattle.fold.specs.Body.{from-gap, next-found, next-none}
 use Rattle.fold.proofs.body.next_digit.Goals as goal
 
 pub loop-i-init : goal.loop-i-init

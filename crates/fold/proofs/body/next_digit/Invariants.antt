@@ -1,9 +1,8 @@
 -- `fold::body::next_digit` meets its contract. The invariant: the bytes passed have no digit. Assumes nothing.
-use mathlib.Core.Path.{◌≡◌, refl, sym, ◌∙◌}
+use mathlib.Core.Path.{◌≡◌}
 use Prim.Native.Nat.{◌-◌, ◌≤◌}
-use native.Mathlib.Omega.{arith}
 use lib.ListN.{length}
-use Rattle.fold.specs.Body.{digits_at, from-gap, next-found, next-none}
+use Rattle.fold.specs.Body.{digits_at}
 use Rattle.fold.proofs.body.next_digit.Given as goal
 
 abbrev pub invariant-loop-i : goal.invariant-loop-i

@@ -1,9 +1,6 @@
 -- `scan::literal::past_underscores` meets its contract. The invariant: from here the `_` end where they end from the start. Assumes nothing.
 use Rattle.std.proofs.Common.{rules}
-use Prim.Native.Nat.{◌≤◌, ◌-◌}
-use mathlib.Core.Path.{◌≡◌, refl}
-use lib.ListN.{length, drop}
-use Rattle.grammar.specs.Meaning.{drop_underscores}
+use mathlib.Core.Path.{refl}
 use Rattle.scan.specs.Literal.{under_next, under-stop, under-over}
 use Rattle.scan.proofs.literal.past_underscores.Goals as goal
 

@@ -1,9 +1,8 @@
 -- `scan::literal::past_underscores` meets its contract. The invariant: from here the `_` end where they end from the start. Assumes nothing.
 use Prim.Native.Nat.{◌≤◌, ◌-◌}
-use mathlib.Core.Path.{◌≡◌, refl}
+use mathlib.Core.Path.{◌≡◌}
 use lib.ListN.{length, drop}
 use Rattle.grammar.specs.Meaning.{drop_underscores}
-use Rattle.scan.specs.Literal.{under_next, under-stop, under-over}
 use Rattle.scan.proofs.literal.past_underscores.Given as goal
 
 abbrev pub invariant-loop-i : goal.invariant-loop-i

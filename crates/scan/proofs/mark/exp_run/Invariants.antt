@@ -1,14 +1,12 @@
 -- `scan::mark::exp_run` meets its contract. The invariant: what is left of the text, from this exponent, comes to what it comes to from
 -- the start. Assumes nothing.
 use Prim.Native.Nat.{◌≤◌, ◌-◌}
-use mathlib.Core.Path.{◌≡◌, ◌∙◌, refl, sym}
-use native.Mathlib.Omega.{arith}
+use mathlib.Core.Path.{◌≡◌}
 use lib.ListN.{length, drop}
 use Rattle.grammar.specs.Automaton.{at, exponent, sign}
 use Rattle.grammar.specs.Reading.{reading, exp_at}
 use Rattle.grammar.specs.Run.{sep_of}
-use Rattle.exponent.specs.Exponent.{exp-bound}
-use Rattle.scan.specs.Found.{written_of, exp-next, exp-stop, exp-over, finds-exp-end}
+use Rattle.scan.specs.Found.{written_of}
 use Rattle.scan.proofs.mark.exp_run.Given as goal
 
 abbrev pub invariant-loop-i : goal.invariant-loop-i

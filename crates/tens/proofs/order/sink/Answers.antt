@@ -1,6 +1,6 @@
 -- `order::sink` meets its contract. The invariant: what the zeros that are left make of the rest is what all make of the start. Assumes nothing.
 use mathlib.Core.Path.{◌≡◌, ◌∙◌, refl, sym, ap}
-use Prim.Native.Nat.{ℕ, ◌+◌, ◌-◌, ◌*◌, ◌^◌, ◌<◌, ◌≤◌}
+use Prim.Native.Nat.{ℕ, ◌-◌, ◌*◌, ◌^◌, ◌≤◌}
 use native.Mathlib.Omega.{arith}
 use Rattle.wide.specs.Meaning.{value_of}
 use Rattle.tens.specs.Order.{sink_of, sink-past, sink-next, low-alone, low-less}

@@ -1,9 +1,8 @@
 -- `order::sink` meets its contract. The invariant: what the zeros that are left make of the rest is what all make of the start. Assumes nothing.
-use mathlib.Core.Path.{◌≡◌, ◌∙◌, refl, sym, ap}
-use Prim.Native.Nat.{ℕ, ◌+◌, ◌-◌, ◌*◌, ◌^◌, ◌<◌, ◌≤◌}
-use native.Mathlib.Omega.{arith}
+use mathlib.Core.Path.{◌≡◌}
+use Prim.Native.Nat.{◌^◌}
 use Rattle.wide.specs.Meaning.{value_of}
-use Rattle.tens.specs.Order.{sink_of, sink-past, sink-next, low-alone, low-less}
+use Rattle.tens.specs.Order.{sink_of}
 use Rattle.tens.proofs.order.sink.Given as goal
 
 abbrev pub invariant-loop-more : goal.invariant-loop-more

@@ -1,13 +1,9 @@
 -- `order::walk` meets its contract. The invariant: the digits that are left compare with the rest as all do with the start, and `left` counts them.
 -- Assumes nothing.
 use Rattle.std.proofs.Common.{rules}
-use mathlib.Core.Path.{◌≡◌, ◌∙◌, refl, sym, ap}
-use Prim.Native.Nat.{ℕ, ◌-◌, ◌^◌, ◌≤◌}
+use mathlib.Core.Path.{refl}
 use native.Mathlib.Omega.{arith}
-use lib.ListN.{length}
-use Rattle.wide.specs.Meaning.{value_of, Words}
-use Rattle.tens.specs.Order.{order_ten}
-use Rattle.fold.specs.Body.{digits_at}
+use Rattle.wide.specs.Meaning.{Words}
 use Rattle.tens.specs.Walk.{walk-less, walk_more, walk-next, walk_same, walk-above, walk-below, next-length}
 use Rattle.tens.proofs.order.walk.Goals as goal
 

@@ -1,13 +1,11 @@
 -- `order::walk` meets its contract. The invariant: the digits that are left compare with the rest as all do with the start, and `left` counts them.
 -- Assumes nothing.
-use mathlib.Core.Path.{◌≡◌, ◌∙◌, refl, sym, ap}
-use Prim.Native.Nat.{ℕ, ◌-◌, ◌^◌, ◌≤◌}
-use native.Mathlib.Omega.{arith}
+use mathlib.Core.Path.{◌≡◌}
+use Prim.Native.Nat.{◌^◌, ◌≤◌}
 use lib.ListN.{length}
-use Rattle.wide.specs.Meaning.{value_of, Words}
+use Rattle.wide.specs.Meaning.{value_of}
 use Rattle.tens.specs.Order.{order_ten}
 use Rattle.fold.specs.Body.{digits_at}
-use Rattle.tens.specs.Walk.{walk-less, walk_more, walk-next, walk_same, walk-above, walk-below, next-length}
 use Rattle.tens.proofs.order.walk.Given as goal
 
 abbrev pub invariant-loop-left : goal.invariant-loop-left

@@ -1,11 +1,9 @@
 -- `prefix::take` meets its contract. The invariant: the number so far, with the digits that are left, is the number of all. Assumes nothing.
-use mathlib.Core.Path.{◌≡◌, refl, ap}
-use Prim.Native.Nat.{ℕ, ◌+◌, ◌-◌, ◌*◌, ◌^◌, ◌≤◌, ◌<◌}
-use native.Mathlib.Omega.{arith}
+use mathlib.Core.Path.{◌≡◌}
+use Prim.Native.Nat.{◌-◌, ◌≤◌}
 use lib.ListN.{length, drop}
 use Rattle.tens.specs.Prefix.{lead_from, lead_of}
 use Rattle.fold.specs.Body.{digits_at}
-use Rattle.tens.specs.Walk.{group-next, group-fits, group-rest, group-end}
 use Rattle.tens.proofs.prefix.take.Given as goal
 
 abbrev pub invariant-loop-k : goal.invariant-loop-k

@@ -1,0 +1,2 @@
+-- The theorems that rest on a definition which an edit of must-fail/ changes, and what is proved over them.
+pub mod Reading

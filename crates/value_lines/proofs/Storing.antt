@@ -1,0 +1,93 @@
+-- One line more in the list, and its end: where the lines before a place are through, so are those up to the next, and at the end of the file all.
+-- Assumes nothing.
+use Rattle.std.specs.Prelude.{◌≡◌, refl, Bool, true, false, cond, List, [], ◌∷◌, map, ℕ, ◌+◌, ◌≤◌, ◌<◌, ℤ, length, drop, get_or, set}
+use Rattle.std.proofs.Common.{sym, ap, ◌∙◌, arith, length-drop, get_or-drop, drop-drop}
+use Rattle.std.proofs.lemmas.List.{length-map}
+use Rattle.std.proofs.Math.ListN.{get_or-map}
+use Rattle.value_lines.specs.Meaning.{is_value, ValueLine, value_line, values_of, line_number, raw_at, number_at}
+use Rattle.value_lines.specs.Held.{Held, held_more, held_all}
+use Rattle.value_lines.specs.Lines.{first_line, line-within, at-end}
+use Rattle.value_lines.proofs.Lines.{at_value, at-skip}
+use Rattle.value_lines.specs.Literal.{line_value}
+use Rattle.value_lines.specs.Store.{Entered, AllEntered, SoFar}
+
+-- the next value, where some are left
+next_here : (vs : List ValueLine) (n : ℕ) (v : ValueLine) (rest : List ValueLine) → drop n vs ≡ v ∷ rest → n ≤ length vs → n < length vs
+next_here vs n v rest e h = omega (arith, ap length e, length-drop n vs)
+
+next-is : (vs : List ValueLine) (n : ℕ) (v d : ValueLine) (rest : List ValueLine) → drop n vs ≡ v ∷ rest → v ≡ get_or vs n d
+next-is vs n v d rest e = sym (ap (λ (l : List ValueLine). get_or l 0 d) e) ∙ get_or-drop n vs 0 d ∙ ap (λ (i : ℕ). get_or vs i d) (omega arith)
+
+next-rest : (vs : List ValueLine) (n : ℕ) (v : ValueLine) (rest : List ValueLine) → drop n vs ≡ v ∷ rest → drop (n + 1) vs ≡ rest
+next-rest vs n v rest e = sym (drop-drop 1 n vs) ∙ ap (drop 1) e
+
+abbrev blank : ValueLine
+blank = value_line 0 []
+
+module _ {B : Type 0} (f : ValueLine → B) (vs : List ValueLine) (n : ℕ) (v : ValueLine) (rest : List ValueLine) {before after : List B}
+    (h : Held (map f vs) n before after) (e : drop n vs ≡ v ∷ rest) (few : n ≤ length vs) (room : length vs ≤ length before) where
+  held-value : Held (map f vs) (n + 1) before (set after n (f v))
+  held-value =
+      let here = next_here vs n v rest e few in
+      let there : n < length (map f vs) = rw (length-map vs f) here in
+      held_more h (f blank) (f v) there (omega arith) (ap f (next-is vs n v blank rest e) ∙ sym (get_or-map f vs n blank))
+
+module _ (file lines : List ℕ) (raws : List ℤ) (answers lines' : List ℕ) (raws' : List ℤ) (answers' : List ℕ) (n number at : ℕ)
+    (s : SoFar file lines raws answers lines' raws' answers' n number at) where
+  -- a value line has a place
+  pub has-place : {line : List ℕ} → at < length file → line ≡ first_line (drop at file) → is_value line ≡ true → n < length (values_of file)
+  has-place here is e = next_here (values_of file) n _ _ (s.left ∙ at_value file at here is (number + 1) e) s.few
+
+  module _ (room : length (values_of file) ≤ length lines) (room-raws : length (values_of file) ≤ length raws)
+      (room-answers : length (values_of file) ≤ length answers)
+      {line : List ℕ} (here : at < length file) (is : line ≡ first_line (drop at file)) where
+    more-value : is_value line ≡ true
+        → SoFar file lines raws answers (set lines' n (number + 1)) (set raws' n (line_value line).raw) (set answers' n (line_value line).answer) (n + 1)
+        (number + 1) (at + (length line + 1))
+    unfolding raw_at number_at line_value
+    more-value e =
+        let left = s.left ∙ at_value file at here is (number + 1) e in
+        let vs = values_of file in
+        let v = value_line (number + 1) line in
+        record {
+          place = omega (arith, line-within file at here is);
+          numbered = omega (arith, s.numbered);
+          few = omega (arith, next_here vs n v _ left s.few);
+          left = next-rest vs n v _ left;
+          lines-hold = held-value line_number vs n v _ s.lines-hold left s.few room;
+          raws-hold = held-value raw_at vs n v _ s.raws-hold left s.few room-raws;
+          answers-hold = held-value number_at vs n v _ s.answers-hold left s.few room-answers;
+        }
+
+    more-skip : is_value line ≡ false → SoFar file lines raws answers lines' raws' answers' n (number + 1) (at + (length line + 1))
+    more-skip e =
+        record {
+          place = omega (arith, line-within file at here is);
+          numbered = omega (arith, s.numbered);
+          few = s.few;
+          left = s.left ∙ at-skip file at here is (number + 1) e;
+          lines-hold = s.lines-hold;
+          raws-hold = s.raws-hold;
+          answers-hold = s.answers-hold;
+        }
+
+    pub more : {l : List ℕ} {r : List ℤ} {a : List ℕ} {next : ℕ} → Entered line (number + 1) n lines' raws' answers' l r a next
+        → SoFar file lines raws answers l r a next (number + 1) (at + (length line + 1))
+    more {l} {r} {a} {next} t = go (is_value line) refl t.lines_are t.raws-are t.answers-are t.next-is
+      where
+        go : (b : Bool) → is_value line ≡ b → l ≡ cond b (set lines' n (number + 1)) lines' → r ≡ cond b (set raws' n (line_value line).raw) raws'
+            → a ≡ cond b (set answers' n (line_value line).answer) answers' → next ≡ cond b (n + 1) n
+            → SoFar file lines raws answers l r a next (number + 1) (at + (length line + 1))
+        go true e p q u w = rw (p, q, u, w) (more-value e)
+        go false e p q u w = rw (p, q, u, w) (more-skip e)
+
+  pub end : length file ≤ at → AllEntered (values_of file) lines raws answers lines' raws' answers'
+  end h =
+      let none = s.left ∙ at-end file at (number + 1) h in
+      let vs = values_of file in
+      let all : n ≡ length vs = omega (arith, ap length none, length-drop n vs, s.few) in
+      record {
+        lines_are = held_all s.lines-hold (rw (length-map vs line_number) all);
+        raws-are = held_all s.raws-hold (rw (length-map vs raw_at) all);
+        answers-are = held_all s.answers-hold (rw (length-map vs number_at) all);
+      }
