@@ -74,7 +74,7 @@ fn fill(file: &mut impl Read, buf: &mut [u8]) -> usize
 fn ended(file: &mut impl Read) -> io::Result<()> {
     match file.read(&mut [0u8; 1])? {
         0 => Ok(()),
-        _ => Err(io::Error::from(ErrorKind::FileTooLarge)),
+        _ => Err(io::Error::other("it went on after its end")),
     }
 }
 
