@@ -12,8 +12,8 @@ const LONGEST: usize = 67;
 
 // The lesser of two counts.
 pub(crate) fn least(a: usize, b: usize) -> usize
-    ensures upper_bound { result ≤ a }
-    ensures upper_bound_2 { result ≤ b }
+    ensures at_most_a { result ≤ a }
+    ensures at_most_b { result ≤ b }
 {
     if a < b {
         return a;
