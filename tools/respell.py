@@ -64,7 +64,7 @@ def renamed():
 
 
 def landed():
-    """What port.py turned: names of LANDED in the old spelling, from docs/port-names.txt."""
+    """What port.py turned: names of LANDED in the old spelling, from tools/port-names.txt."""
     path = ROOT / "tools/port-names.txt"
     return {old: snake(old) for old in path.read_text().split()} if path.exists() else {}
 

@@ -27,11 +27,10 @@ times-whole-requires c =
 
 pub returns : goal.returns
 returns c =
-    let s = c in
-    let a = s.args in
+    let a = c.args in
     let head = c.fold_digits-head in
     let digit = c.next_digit-next in
-    cut-done a.body.now a.n a.width a.count a.c s.requires.0 s.requires.1 s.requires.2 s.requires.3
+    cut-done a.body.now a.n a.width a.count a.c c.requires.0 c.requires.1 c.requires.2 c.requires.3
     (subst (λ (m : ℕ). Taken a.body.now 0 a.count m head.result.number head.result.at)
     c.power.ensures head.ensures)
     digit.ensures

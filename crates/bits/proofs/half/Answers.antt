@@ -11,5 +11,4 @@ nonzero_rem-digit c = omega (arith, c.power.ensures, pow_pos c.args.c)
 
 pub returns : goal.returns
 returns c =
-    let s = c in
-    c.compare.ensures ∙ ap₂ (λ (m h : ℕ). cut_of (s.args.digit % m) h s.args.rest) c.power.ensures c.power-2.ensures
+    c.compare.ensures ∙ ap₂ (λ (m h : ℕ). cut_of (c.args.digit % m) h c.args.rest) c.power.ensures c.power-2.ensures

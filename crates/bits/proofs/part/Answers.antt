@@ -8,17 +8,13 @@ overflow_add-c c = omega (arith, cut-bits c.args.s c.args.width c.requires.0.som
 
 pub returns-then-n-low : goal.returns-then-n-low
 returns-then-n-low c =
-    let s = c in
-    let a = s.args in
-    cut-none a.body.now a.n a.s a.width s.requires.0 s.requires.1 c.if-n-low.true c.of.ensures
+    let a = c.args in
+    cut-none a.body.now a.n a.s a.width c.requires.0 c.requires.1 c.if-n-low.true c.of.ensures
 
 pub cut-requires : goal.cut-requires
-cut-requires c =
-    let s = c in
-    (s.requires.0, omega arith, omega arith, cut-bits s.args.s s.args.width s.requires.0.some)
+cut-requires c = (c.requires.0, omega arith, omega arith, cut-bits c.args.s c.args.width c.requires.0.some)
 
 pub returns : goal.returns
 returns c =
-    let s = c in
-    let a = s.args in
-    cut-found a.body.now a.n a.s a.width s.requires.1 c.if-n-low.false c.cut.ensures
+    let a = c.args in
+    cut-found a.body.now a.n a.s a.width c.requires.1 c.if-n-low.false c.cut.ensures

@@ -13,15 +13,13 @@ fold_digits-all-requires c =
 
 pub returns-then-down-up : goal.returns-then-down-up
 returns-then-down-up c =
-    let s = c in
-    let a = s.args in
+    let a = c.args in
     let all = c.fold_digits-all in
-    whole-done a.body.now a.n a.width a.up a.down s.requires c.if-down-up.true
+    whole-done a.body.now a.n a.width a.up a.down c.requires c.if-down-up.true
     (subst (λ (m : ℕ). Taken a.body.now 0 a.n m all.result.number all.result.at) c.power.ensures all.ensures)
     c.scaled.ensures
 
 pub returns : goal.returns
 returns c =
-    let s = c in
-    let a = s.args in
-    part-done a.body.now a.n a.width a.up a.down s.requires c.if-down-up.false c.part.ensures
+    let a = c.args in
+    part-done a.body.now a.n a.width a.up a.down c.requires c.if-down-up.false c.part.ensures

@@ -9,20 +9,15 @@ use Rattle.decimal.proofs.fill.Goals as goal
 
 pub sign-requires : goal.sign-requires
 sign-requires c =
-    let w = c in
-    let s = w in
-    let q = s.args.magnitude / 2 ^ s.args.frac in
-    let small : q < 2 ^ 64 = omega (arith, div-le_self s.args.magnitude (2 ^ s.args.frac), s.ranges.magnitude.fits) in
-    (omega (arith, w.write-first.ensures.0, whole_word q small), omega (arith, w.write-first.ensures.0), w.write-first.ensures.2)
+    let q = c.args.magnitude / 2 ^ c.args.frac in
+    let small : q < 2 ^ 64 = omega (arith, div-le_self c.args.magnitude (2 ^ c.args.frac), c.ranges.magnitude.fits) in
+    (omega (arith, c.write-first.ensures.0, whole_word q small), omega (arith, c.write-first.ensures.0), c.write-first.ensures.2)
 
 pub returns : goal.returns
 unfolding text_of
 returns c =
-    let w = c in
-    let f = w in
-    let s = f in
-    let m = s.args.magnitude in
-    let k = s.args.frac in
-    joined (sign_text s.args.neg) (whole_text (m / 2 ^ k)) (fraction_text k (m % 2 ^ k)) s.args.text.now f.write-end.new.text w.write-first.new.text
+    let m = c.args.magnitude in
+    let k = c.args.frac in
+    joined (sign_text c.args.neg) (whole_text (m / 2 ^ k)) (fraction_text k (m % 2 ^ k)) c.args.text.now c.write-end.new.text c.write-first.new.text
     c.sign.new.text
-    c.sign.result w.write-first.result f.write-end.result s.requires.1 f.write-end.ensures w.write-first.ensures c.sign.ensures
+    c.sign.result c.write-first.result c.write-end.result c.requires.1 c.write-end.ensures c.write-first.ensures c.sign.ensures

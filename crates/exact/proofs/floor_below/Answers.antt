@@ -17,13 +17,11 @@ sub-requires c =
 
 pub add-q-requires : goal.add-q-requires
 add-q-requires c =
-    let s = c in
-    let some = some_below (s.args.high * 2 ^ 64 + s.args.low) c.less.ensures c.if-less.false in
-    below-fits (2 ^ s.args.k) some (words-lt s.ranges.high.fits s.ranges.low.fits) c.sub.ensures c.shr.ensures
+    let some = some_below (c.args.high * 2 ^ 64 + c.args.low) c.less.ensures c.if-less.false in
+    below-fits (2 ^ c.args.k) some (words-lt c.ranges.high.fits c.ranges.low.fits) c.sub.ensures c.shr.ensures
 
 pub returns : goal.returns
 returns c =
-    let s = c in
-    let x = s.args.high * 2 ^ 64 + s.args.low in
+    let x = c.args.high * 2 ^ 64 + c.args.low in
     let some = some_below x c.less.ensures c.if-less.false in
-    floor-below x (2 ^ s.args.k) some c.sub.ensures c.shr.ensures c.add-q.ensures
+    floor-below x (2 ^ c.args.k) some c.sub.ensures c.shr.ensures c.add-q.ensures

@@ -17,10 +17,9 @@ overflow_mul-a c =
 
 pub returns-then-frac-lt64 : goal.returns-then-frac-lt64
 returns-then-frac-lt64 c =
-    let start = c in
-    let m = 2 ^ start.args.frac in
+    let m = 2 ^ c.args.frac in
     c.of_number.ensures ∙ c.of_signed.ensures ∙ shifted_back m (overflow_mul-a c.before.before)
-    ∙ ap₂ (λ (x y : ℤ). floor (x *ℤ y) m) (to_z-of_z {w = w64} start.ranges.a) (to_z-of_z {w = w64} start.ranges.b)
+    ∙ ap₂ (λ (x y : ℤ). floor (x *ℤ y) m) (to_z-of_z {w = w64} c.ranges.a) (to_z-of_z {w = w64} c.ranges.b)
 
 pub returns : goal.returns
 returns c =

@@ -5,12 +5,10 @@ use Rattle.fold.proofs.times.Goals as goal
 
 pub returns-then-x : goal.returns-then-x
 returns-then-x c =
-    let s = c in
     let w = c.words-sum in
-    times-over s.args.x s.args.m s.args.d w.result.high s.requires w.ensures c.struct_known-1.given.1.0.fits c.if-x.true refl
+    times-over c.args.x c.args.m c.args.d w.result.high c.requires w.ensures c.struct_known-1.given.1.0.fits c.if-x.true refl
 
 pub returns : goal.returns
 returns c =
-    let s = c in
     let w = c.words-sum in
-    times-under s.args.x s.args.m s.args.d w.result.high w.ensures c.struct_known-1.given.1.0.fits c.if-x.false refl
+    times-under c.args.x c.args.m c.args.d w.result.high w.ensures c.struct_known-1.given.1.0.fits c.if-x.false refl

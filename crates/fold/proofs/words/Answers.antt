@@ -4,6 +4,5 @@ use Rattle.fold.proofs.words.Goals as goal
 
 pub add-requires : goal.add-requires
 add-requires c =
-    let s = c in
-    words-fit c.mul.result.high c.mul.result.low s.args.a s.args.m s.args.d s.ranges.a.fits s.ranges.m.fits s.ranges.d.fits
+    words-fit c.mul.result.high c.mul.result.low c.args.a c.args.m c.args.d c.ranges.a.fits c.ranges.m.fits c.ranges.d.fits
     c.mul.ensures

@@ -11,6 +11,5 @@ overflow_mul-result c = record { fits = rw c.fives-fives.ensures c.requires.3 }
 
 pub returns : goal.returns
 returns c =
-    let a = c in
     let e = c.fives-fives.ensures in
-    by-fives a.args.raw a.args.frac a.args.guess _ _ a.requires.1 (ap (λ (xs : List ℕ). get_or xs 0 0) e) (ap (λ (xs : List ℕ). get_or xs 1 0) e)
+    by-fives c.args.raw c.args.frac c.args.guess _ _ c.requires.1 (ap (λ (xs : List ℕ). get_or xs 0 0) e) (ap (λ (xs : List ℕ). get_or xs 1 0) e)

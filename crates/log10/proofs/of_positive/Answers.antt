@@ -22,9 +22,8 @@ guess-guess-requires c = (omega (arith, (leading_top 64 c.args.raw c.requires.0 
 
 pub next_reached-requires : goal.next_reached-requires
 next_reached-requires c =
-    let a = c in
     let e = c.guess-guess.ensures in
-    let fit = fives-fit a.args.raw a.args.frac c.guess-guess.result a.requires.0 a.ranges.raw.fits a.requires.1 (e.0, e.1) in
+    let fit = fives-fit c.args.raw c.args.frac c.guess-guess.result c.requires.0 c.ranges.raw.fits c.requires.1 (e.0, e.1) in
     (e.2, e.3, e.4, fit)
 
 pub overflow_add-guess : goal.overflow_add-guess
@@ -32,11 +31,10 @@ overflow_add-guess c = omega (arith, one_at_most c.next_reached.result, c.guess-
 
 pub returns : goal.returns
 returns c =
-    let a = c in
     let g = c.guess-guess in
     let e = g.ensures in
     let t = c.next_reached in
     let n = g.result + bool_byte t.result in
     let k : c.minus.result ≡ pos n -ℤ pos 20 = omega (orders, c.minus.ensures, sub_out (pos n) (pos 20)) in
     ok-back w64 c.minus.result c.minus.type_inv ∙ k
-    ∙ mended a.args.raw a.args.frac g.result a.requires.0 a.ranges.raw.fits a.requires.1 (e.0, e.1) t.result t.ensures
+    ∙ mended c.args.raw c.args.frac g.result c.requires.0 c.ranges.raw.fits c.requires.1 (e.0, e.1) t.result t.ensures

@@ -7,9 +7,7 @@ use Rattle.results.specs.Results.{sum_room, add_same, add_apart, add_turned}
 use Rattle.results.proofs.add.Goals as goal
 
 pub add-s-requires : goal.add-s-requires
-add-s-requires c =
-    let s = c in
-    sum_room (s.args.x.high * 2 ^ 64 + s.args.x.low) s.requires s.ranges.size.fits
+add-s-requires c = sum_room (c.args.x.high * 2 ^ 64 + c.args.x.low) c.requires c.ranges.size.fits
 
 pub returns-then-x-neg : goal.returns-then-x-neg
 returns-then-x-neg c =

@@ -10,30 +10,26 @@ use Rattle.tens.proofs.below.Goals as goal
 
 pub beside-requires : goal.beside-requires
 beside-requires c =
-    let s = c in
     let taken = c.fold_digits-whole.ensures in
-    let cut = below-cut (body_of s.args.body.now) s.args.n s.args.places s.requires.0 c.if-places-all.true taken.rest s.requires.1 in
-    (taken.within, cut.0, cut.1, omega arith, s.requires.2)
+    let cut = below-cut (body_of c.args.body.now) c.args.n c.args.places c.requires.0 c.if-places-all.true taken.rest c.requires.1 in
+    (taken.within, cut.0, cut.1, omega arith, c.requires.2)
 
 pub returns-then-places-all : goal.returns-then-places-all
 returns-then-places-all c =
-    let s = c in
     let taken = c.fold_digits-whole.ensures in
-    below-some (body_of s.args.body.now) s.requires.1 s.args.frac s.requires.2 s.args.places s.args.n s.requires.0 c.if-places-all.true
+    below-some (body_of c.args.body.now) c.requires.1 c.args.frac c.requires.2 c.args.places c.args.n c.requires.0 c.if-places-all.true
     taken.rest taken.folded c.beside.ensures
 
 pub returns-then-zeros-ge-NO_MORE : goal.returns-then-zeros-ge-NO_MORE
 returns-then-zeros-ge-NO_MORE c =
-    let s = c in
-    let ds = body_of s.args.body.now in
-    let z = s.args.places - s.args.n in
-    let sum : z + length ds ≡ s.args.places = omega arith in
-    below-far ds s.requires.1 s.args.frac s.requires.2 s.args.places z sum c.if-zeros-ge-NO_MORE.true c.of.ensures
+    let ds = body_of c.args.body.now in
+    let z = c.args.places - c.args.n in
+    let sum : z + length ds ≡ c.args.places = omega arith in
+    below-far ds c.requires.1 c.args.frac c.requires.2 c.args.places z sum c.if-zeros-ge-NO_MORE.true c.of.ensures
 
 pub returns : goal.returns
 returns c =
-    let s = c in
-    let ds = body_of s.args.body.now in
-    let z = s.args.places - s.args.n in
-    let sum : z + length ds ≡ s.args.places = omega arith in
-    below_none ds s.requires.1 s.args.frac s.requires.2 s.args.places z sum c.of-2.ensures c.beside-2.ensures
+    let ds = body_of c.args.body.now in
+    let z = c.args.places - c.args.n in
+    let sum : z + length ds ≡ c.args.places = omega arith in
+    below_none ds c.requires.1 c.args.frac c.requires.2 c.args.places z sum c.of-2.ensures c.beside-2.ensures

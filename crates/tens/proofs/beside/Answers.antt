@@ -13,18 +13,14 @@ use Rattle.tens.proofs.beside.Goals as goal
 
 pub side-side-requires : goal.side-side-requires
 side-side-requires c =
-    let s = c in
-    let ds = digits_at s.args.body.now s.args.from in
-    let less = first_below s.args.frac (lead_of 27 (replicate s.args.zeros 0 ++ ds)) (lead-fits s.args.zeros ds s.requires.2) in
-    (s.requires.0, s.requires.1, s.requires.2, s.requires.4, subst (λ (n : ℕ). n < 2 ^ s.args.frac) (sym c.first-q.ensures) less)
+    let ds = digits_at c.args.body.now c.args.from in
+    let less = first_below c.args.frac (lead_of 27 (replicate c.args.zeros 0 ++ ds)) (lead-fits c.args.zeros ds c.requires.2) in
+    (c.requires.0, c.requires.1, c.requires.2, c.requires.4, subst (λ (n : ℕ). n < 2 ^ c.args.frac) (sym c.first-q.ensures) less)
 
 pub returns : goal.returns
 returns c =
-    let first = c in
-    let sum = c in
-    let s = first in
-    let ds = digits_at s.args.body.now s.args.from in
-    beside-folded (replicate s.args.zeros 0 ++ ds) (small-zeros s.args.zeros ds s.requires.2) s.args.frac s.requires.4 (folded_value s.args.whole)
-    first.first-q.result first.first-q.ensures c.side-side.ensures
-    c.scaled.ensures sum.add-sum.ensures
-    (c.add.ensures ∙ ap (λ (n : ℕ). fold_of (folded_value sum.add-sum.result + n)) c.carry.ensures)
+    let ds = digits_at c.args.body.now c.args.from in
+    beside-folded (replicate c.args.zeros 0 ++ ds) (small-zeros c.args.zeros ds c.requires.2) c.args.frac c.requires.4 (folded_value c.args.whole)
+    c.first-q.result c.first-q.ensures c.side-side.ensures
+    c.scaled.ensures c.add-sum.ensures
+    (c.add.ensures ∙ ap (λ (n : ℕ). fold_of (folded_value c.add-sum.result + n)) c.carry.ensures)

@@ -22,7 +22,6 @@ loop-k-preserved c =
 pub returns : goal.returns
 returns c =
     let l = c.loop-k in
-    let a = c in
-    let s = a.args in
+    let s = c.args in
     let e : l.k ≡ s.zeros = omega arith in
-    lift-end (folded_value s.x) s.zeros a.add-number.ensures (l.invariant.1 ∙ ap (λ (n : ℕ). fold_of (folded_value a.add-number.result * 10 ^ n)) e)
+    lift-end (folded_value s.x) s.zeros c.add-number.ensures (l.invariant.1 ∙ ap (λ (n : ℕ). fold_of (folded_value c.add-number.result * 10 ^ n)) e)

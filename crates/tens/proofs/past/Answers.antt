@@ -5,6 +5,5 @@ use Rattle.tens.proofs.past.Goals as goal
 
 pub returns : goal.returns
 returns c =
-    let s = c in
-    past-folded (body_of s.args.body.now) s.args.n s.args.zeros s.args.frac s.requires c.fold_digits-all.ensures.folded
+    past-folded (body_of c.args.body.now) c.args.n c.args.zeros c.args.frac c.requires c.fold_digits-all.ensures.folded
     c.lifted.ensures c.scaled.ensures

@@ -10,9 +10,7 @@ pub overflow_add-places : goal.overflow_add-places
 overflow_add-places c = omega (arith, body-length c.args.body.now)
 
 pub below-requires : goal.below-requires
-below-requires c =
-    let s = c in
-    (s.requires.0, small_all (body_of s.args.body.now) s.requires.2, s.requires.4)
+below-requires c = (c.requires.0, small_all (body_of c.args.body.now) c.requires.2, c.requires.4)
 
 pub returns-then-down : goal.returns-then-down
 returns-then-down c =
@@ -25,9 +23,7 @@ returns-then-places-exp c =
     tens-past s.frac (body_of s.body.now) s.after s.exp c.if-down.false c.if-places-exp.true c.past.ensures
 
 pub below-requires-2 : goal.below-requires-2
-below-requires-2 c =
-    let s = c in
-    (s.requires.0, small_all (body_of s.args.body.now) s.requires.2, s.requires.4)
+below-requires-2 c = (c.requires.0, small_all (body_of c.args.body.now) c.requires.2, c.requires.4)
 
 pub returns : goal.returns
 returns c =

@@ -9,9 +9,7 @@ pub returns-then-x-eq0 : goal.returns-then-x-eq0
 returns-then-x-eq0 c = modulo-zero _ _ c.if-x.true c.if-x-eq0.true
 
 pub overflow_sub-result-then-x-2 : goal.overflow_sub-result-then-x-2
-overflow_sub-result-then-x-2 c =
-    let s = c in
-    omega (arith, rest_below (s.args.x.size - 1) s.args.m s.requires)
+overflow_sub-result-then-x-2 c = omega (arith, rest_below (c.args.x.size - 1) c.args.m c.requires)
 
 pub returns-then-x : goal.returns-then-x
 returns-then-x c = modulo-below _ _ c.if-x.true c.requires c.if-x-eq0.false refl

@@ -54,12 +54,10 @@ overflow_add-result c = omega (arith, upper c.before, left c.before, lower c.bef
 
 pub overflow_add-result-2 : goal.overflow_add-result-2
 overflow_add-result-2 c =
-    let s = c in
-    omega (arith, upper s.before, left s.before, right s.before, lower s.before, mask_lt (a₁ s.before * b₀ s.before + a₀ s.before * b₀ s.before / 2 ^ 32) 32)
+    omega (arith, upper c.before, left c.before, right c.before, lower c.before, mask_lt (a₁ c.before * b₀ c.before + a₀ c.before * b₀ c.before / 2 ^ 32) 32)
 
 pub returns : goal.returns
 returns c =
-    let s = c in
-    product s.args.a s.args.b (a₀ s.before.before) (b₀ s.before.before) (and_mask s.args.a 32) (and_mask s.args.b 32)
+    product c.args.a c.args.b (a₀ c.before.before) (b₀ c.before.before) (and_mask c.args.a 32) (and_mask c.args.b 32)
     _ _ _
-    (and_mask (a₁ s.before.before * b₀ s.before.before + a₀ s.before.before * b₀ s.before.before / 2 ^ 32) 32) c.wrapping_add_u64-cross.ensures.value c.wrapping_add_u64.ensures.value
+    (and_mask (a₁ c.before.before * b₀ c.before.before + a₀ c.before.before * b₀ c.before.before / 2 ^ 32) 32) c.wrapping_add_u64-cross.ensures.value c.wrapping_add_u64.ensures.value

@@ -7,13 +7,11 @@ use Rattle.wide.proofs.shr.Goals as goal
 
 pub returns-then-k-lt64 : goal.returns-then-k-lt64
 returns-then-k-lt64 c =
-    let s = c in
-    right-bits s.args.x.high s.args.x.low s.args.k c.struct_known-then-k-lt64-2-1.given.1.0.fits c.if-k-lt64.true
+    right-bits c.args.x.high c.args.x.low c.args.k c.struct_known-then-k-lt64-2-1.given.1.0.fits c.if-k-lt64.true
 
 pub returns-then-k-lt128 : goal.returns-then-k-lt128
 returns-then-k-lt128 c =
-    let s = c in
-    right-word s.args.x.high s.args.x.low s.args.k c.if-k-lt64.false c.struct_known-then-k-lt128-1.given.1.0.fits
+    right-word c.args.x.high c.args.x.low c.args.k c.if-k-lt64.false c.struct_known-then-k-lt128-1.given.1.0.fits
 
 pub returns : goal.returns
 returns c = right-none (value_of c.args.x) c.args.k c.if-k-lt128.false (value-lt {x = c.args.x} (record {

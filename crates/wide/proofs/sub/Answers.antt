@@ -16,5 +16,4 @@ overflow_sub-result-2 c = borrow-le (lower c.before.before.before.before) c.requ
 
 pub returns : goal.returns
 returns c =
-    let j = c in
-    difference (lower j.before.before.before.before) j.requires c.wrapping_sub_u64.type_inv j.struct_known-2-1.given.1.0.fits c.wrapping_sub_u64.ensures.value
+    difference (lower c.before.before.before.before) c.requires c.wrapping_sub_u64.type_inv c.struct_known-2-1.given.1.0.fits c.wrapping_sub_u64.ensures.value

@@ -17,9 +17,7 @@ use Rattle.decimal.proofs.fraction.digits.Goals.{After-mul-next}
 -- in a turn a digit is left to write, and a pair is below a hundred
 more : (c : After-mul-next) → 0 < first + c.args.frac - c.loop-rest.end
 more c =
-    let l = c in
-    let s = l in
-    ends_more (2 ^ 64) (first + s.args.frac - l.loop-rest.end) l.loop-rest.rest l.loop-rest.invariant.3 c.loop-rest-test.true l.loop-rest.invariant.4
+    ends_more (2 ^ 64) (first + c.args.frac - c.loop-rest.end) c.loop-rest.rest c.loop-rest.invariant.3 c.loop-rest-test.true c.loop-rest.invariant.4
 
 hundred : (c : After-mul-next) → c.mul-next.result.high < 100
 hundred c = omega (arith, c.mul-next.ensures, c.loop-rest.invariant.3)
@@ -32,17 +30,16 @@ bounds-text-21 c = lit< tt
 
 pub loop-rest-init : goal.loop-rest-init
 loop-rest-init c =
-    let s = c in
-    let f = s.args.frac in
+    let f = c.args.frac in
     let e : f ≡ first + f - first = omega arith in
-    let text = set s.args.text.now point 46 in (
+    let text = set c.args.text.now point 46 in (
       omega arith,
       omega arith,
-      length-set s.args.text.now point 46 ∙ s.requires.1,
+      length-set c.args.text.now point 46 ∙ c.requires.1,
       omega arith,
-      subst (λ (k : ℕ). Ends k (2 ^ 64) s.args.fraction) e s.requires.2,
-      ap (λ (k : ℕ). take first text ++ map byte_of (fraction_by (2 ^ 64) k s.args.fraction)) (sym e)
-          ∙ sym (append-nil (take first text ++ map byte_of (fraction_by (2 ^ 64) f s.args.fraction))),
+      subst (λ (k : ℕ). Ends k (2 ^ 64) c.args.fraction) e c.requires.2,
+      ap (λ (k : ℕ). take first text ++ map byte_of (fraction_by (2 ^ 64) k c.args.fraction)) (sym e)
+          ∙ sym (append-nil (take first text ++ map byte_of (fraction_by (2 ^ 64) f c.args.fraction))),
       omega arith,
       λ _. omega arith,
     )
@@ -73,35 +70,32 @@ loop-rest-smaller c = omega (arith, more c.before.before.before.before)
 
 pub loop-rest-preserved : goal.loop-rest-preserved
 loop-rest-preserved c =
-    let m = c in
-    let l = m in
-    let s = l in
-    let inv = l.loop-rest.invariant in
-    let f = s.args.frac in
-    let end = l.loop-rest.end in
-    let rest = l.loop-rest.rest in
-    let text = l.loop-rest.text in
-    let high = m.mul-next.result.high in
-    let low = m.mul-next.result.low in
+    let inv = c.loop-rest.invariant in
+    let f = c.args.frac in
+    let end = c.loop-rest.end in
+    let rest = c.loop-rest.rest in
+    let text = c.loop-rest.text in
+    let high = c.mul-next.result.high in
+    let low = c.mul-next.result.low in
     let below : low < 2 ^ 64 = omega arith in
-    let some = m.loop-rest-test.true in
+    let some = c.loop-rest-test.true in
     let two : first + f - end - 2 ≡ first + f - (end + 2) = omega arith in
-    let none : l.loop-rest.zeros ≡ 0 = inv.7 some in
-    let goal = take first (set s.args.text.now point 46) ++ map byte_of (fraction_by (2 ^ 64) f s.args.fraction) in
+    let none : c.loop-rest.zeros ≡ 0 = inv.7 some in
+    let goal = take first (set c.args.text.now point 46) ++ map byte_of (fraction_by (2 ^ 64) f c.args.fraction) in
     let before : take end text ++ map byte_of (fraction_by (2 ^ 64) (first + f - end) rest) ≡ goal =
     inv.5 ∙ ap (λ (k : ℕ). goal ++ replicate k 48) none ∙ append-nil goal in
     let zeros : c.spare-zeros.result ≡ spare_of (high % 10) low = c.spare-zeros.ensures in (
       omega (arith, inv.0),
-      omega (arith, more m.before.before.before.before),
+      omega (arith, more c.before.before.before.before),
       length-set (set text end c.byte.result) (end + 1) c.byte-in-loop-rest.result ∙ length-set text end c.byte.result
           ∙ inv.2,
       below,
-      subst (λ (k : ℕ). Ends k (2 ^ 64) low) two (ends-pair (2 ^ 64) rest high low (lit< tt) below m.mul-next.ensures (first + f - end) inv.3 some inv.4),
+      subst (λ (k : ℕ). Ends k (2 ^ 64) low) two (ends-pair (2 ^ 64) rest high low (lit< tt) below c.mul-next.ensures (first + f - end) inv.3 some inv.4),
       ap (λ (k : ℕ). take (end + 2) (set (set text end c.byte.result) (end + 1) c.byte-in-loop-rest.result)
           ++ map byte_of (fraction_by (2 ^ 64) k low)) (sym two)
-          ∙ pair_step (2 ^ 64) rest high low (lit< tt) below m.mul-next.ensures (first + f - end) end c.byte.result
+          ∙ pair_step (2 ^ 64) rest high low (lit< tt) below c.mul-next.ensures (first + f - end) end c.byte.result
           c.byte-in-loop-rest.result text inv.3 some inv.4
-          (omega (arith, more m.before.before.before.before, s.requires, inv.2)) c.byte.ensures c.byte-in-loop-rest.ensures before
+          (omega (arith, more c.before.before.before.before, c.requires, inv.2)) c.byte.ensures c.byte-in-loop-rest.ensures before
           ∙ ap (λ (k : ℕ). goal ++ replicate k 48) (sym zeros),
       omega (arith, zeros, spare-most (high % 10) low),
       λ n. zeros ∙ spare-none (high % 10) low n,
@@ -112,12 +106,10 @@ overflow_sub-result c = omega (arith, c.loop-rest.invariant.0, c.loop-rest.invar
 
 pub returns : goal.returns
 returns c =
-    let l = c in
-    let s = l in
-    let inv = l.loop-rest.invariant in
-    let f = s.args.frac in
-    let end = l.loop-rest.end in
-    let zeros = l.loop-rest.zeros in
-    let text = l.loop-rest.text in
-    word_some f s.args.fraction s.args.text.now s.requires.1 (end - zeros) text l.if-fraction-eq0.false (omega (arith, inv.1, s.requires)) inv.2
-    (fraction-stop (2 ^ 64) (first + f - end) l.loop-rest.rest end zeros text c.loop-rest-test.false (omega (arith, inv.1, inv.2, s.requires)) inv.5)
+    let inv = c.loop-rest.invariant in
+    let f = c.args.frac in
+    let end = c.loop-rest.end in
+    let zeros = c.loop-rest.zeros in
+    let text = c.loop-rest.text in
+    word_some f c.args.fraction c.args.text.now c.requires.1 (end - zeros) text c.if-fraction-eq0.false (omega (arith, inv.1, c.requires)) inv.2
+    (fraction-stop (2 ^ 64) (first + f - end) c.loop-rest.rest end zeros text c.loop-rest-test.false (omega (arith, inv.1, inv.2, c.requires)) inv.5)

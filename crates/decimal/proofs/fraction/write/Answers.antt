@@ -9,14 +9,12 @@ use Rattle.decimal.proofs.fraction.write.Goals as goal
 
 pub digits-requires : goal.digits-requires
 digits-requires c =
-    let s = c in
-    (s.requires.0, s.requires.1, scaled-ends (s.args.magnitude % 2 ^ s.args.frac) s.args.frac s.requires.0 c.scaled.ensures)
+    (c.requires.0, c.requires.1, scaled-ends (c.args.magnitude % 2 ^ c.args.frac) c.args.frac c.requires.0 c.scaled.ensures)
 
 pub returns : goal.returns
 returns c =
     let r = c.digits.result in
     let left = c.digits.new.text in
-    let s = c in
-    let text = s.args.text.now in
+    let text = c.args.text.now in
     subst (λ (t : List ℕ). (r ≡ point + length t) × (r ≤ places) × (take r left ≡ take point text ++ t) × (length left ≡ places))
-    (scaled-text (s.args.magnitude % 2 ^ s.args.frac) s.args.frac s.requires.0 c.scaled.ensures) c.digits.ensures
+    (scaled-text (c.args.magnitude % 2 ^ c.args.frac) c.args.frac c.requires.0 c.scaled.ensures) c.digits.ensures

@@ -13,26 +13,17 @@ use Rattle.decimal.proofs.signed.write.Goals as goal
 
 pub returns-then-fault-ne0 : goal.returns-then-fault-ne0
 returns-then-fault-ne0 c =
-    let k = c in
-    let s = k in
-    refuses s.args.raw s.args.width s.args.frac s.args.out.now k.check-fault.ensures c.if-fault-ne0.true
+    refuses c.args.raw c.args.width c.args.frac c.args.out.now c.check-fault.ensures c.if-fault-ne0.true
 
 pub put-requires : goal.put-requires
-put-requires c =
-    let e = c in
-    let s = e in
-    frac-word s.args.width s.args.frac e.check-fault.ensures e.if-fault-ne0.false
+put-requires c = frac-word c.args.width c.args.frac c.check-fault.ensures c.if-fault-ne0.false
 
 pub returns : goal.returns
 returns c =
-    let p = c in
-    let m = p in
-    let e = m in
-    let s = e in
-    let raw = s.args.raw in
-    let f = s.args.frac in
-    writes raw s.args.width f s.args.out.now e.check-fault.ensures e.if-fault-ne0.false
-    (ap (λ (n : ℕ). text_of (lt_z (to_z w64 (of_z w64 raw)) (pos 0)) n f) m.magnitude.ensures
+    let raw = c.args.raw in
+    let f = c.args.frac in
+    writes raw c.args.width f c.args.out.now c.check-fault.ensures c.if-fault-ne0.false
+    (ap (λ (n : ℕ). text_of (lt_z (to_z w64 (of_z w64 raw)) (pos 0)) n f) c.magnitude.ensures
     ∙ raw-text (to_z w64 (of_z w64 raw)) f
-    ∙ ap (λ (z : ℤ). raw_text z f) (to_z-of_z s.ranges.raw))
-    p.put.ensures
+    ∙ ap (λ (z : ℤ). raw_text z f) (to_z-of_z c.ranges.raw))
+    c.put.ensures

@@ -8,20 +8,12 @@ use Rattle.decimal.proofs.unsigned.write.Goals as goal
 
 pub returns-then-fault-ne0 : goal.returns-then-fault-ne0
 returns-then-fault-ne0 c =
-    let k = c in
-    let s = k in
-    refuses (pos s.args.raw) s.args.width s.args.frac s.args.out.now k.check-fault.ensures c.if-fault-ne0.true
+    refuses (pos c.args.raw) c.args.width c.args.frac c.args.out.now c.check-fault.ensures c.if-fault-ne0.true
 
 pub put-requires : goal.put-requires
-put-requires c =
-    let e = c in
-    let s = e in
-    frac-word s.args.width s.args.frac e.check-fault.ensures e.if-fault-ne0.false
+put-requires c = frac-word c.args.width c.args.frac c.check-fault.ensures c.if-fault-ne0.false
 
 pub returns : goal.returns
 unfolding raw_text
 returns c =
-    let p = c in
-    let e = p in
-    let s = e in
-    writes (pos s.args.raw) s.args.width s.args.frac s.args.out.now e.check-fault.ensures e.if-fault-ne0.false refl p.put.ensures
+    writes (pos c.args.raw) c.args.width c.args.frac c.args.out.now c.check-fault.ensures c.if-fault-ne0.false refl c.put.ensures

@@ -7,6 +7,5 @@ use Rattle.decimal.proofs.whole.part.Goals as goal
 
 pub returns : goal.returns
 returns c =
-    let s = c in
-    let e : s.args.frac ≡ 64 = omega (arith, c.if-frac-lt64.false, s.requires) in
-    sym (ap (λ (k : ℕ). s.args.magnitude / 2 ^ k) e ∙ div-eq_of_lt s.ranges.magnitude.fits)
+    let e : c.args.frac ≡ 64 = omega (arith, c.if-frac-lt64.false, c.requires) in
+    sym (ap (λ (k : ℕ). c.args.magnitude / 2 ^ k) e ∙ div-eq_of_lt c.ranges.magnitude.fits)

@@ -11,24 +11,20 @@ returns-then-e-last c = folds-infinite _ _ c.biased-e.ensures c.last.ensures _ c
 
 pub significand-m-requires : goal.significand-m-requires
 significand-m-requires c =
-    let s = c in
-    let n = s.args.precision - 1 in
-    let small = s.requires.0 in
-    (small.some, small.most, rest_below s.args.pattern n n (le_refl n) c.trailing.ensures)
+    let n = c.args.precision - 1 in
+    let small = c.requires.0 in
+    (small.some, small.most, rest_below c.args.pattern n n (le_refl n) c.trailing.ensures)
 
 pub overflow_add-frac : goal.overflow_add-frac
 overflow_add-frac c =
-    let p = c in
-    let s = p in
-    let exponent = rest_below (s.args.pattern / 2 ^ (s.args.precision - 1)) s.args.field 11 s.requires.0.field-most p.biased-e.ensures in
-    record { fits = omega (arith, s.requires.1, c.place.ensures) }
+    let exponent = rest_below (c.args.pattern / 2 ^ (c.args.precision - 1)) c.args.field 11 c.requires.0.field-most c.biased-e.ensures in
+    record { fits = omega (arith, c.requires.1, c.place.ensures) }
 
 pub scaled-requires : goal.scaled-requires
 scaled-requires c = omega (arith, c.significand-m.ensures.below)
 
 pub returns : goal.returns
 returns c =
-    let l = c in
-    folds-finite _ _ _ l.biased-e.ensures c.trailing.ensures l.last.ensures
+    folds-finite _ _ _ c.biased-e.ensures c.trailing.ensures c.last.ensures
     c.if-e-last.false
     c.significand-m.ensures c.place.ensures c.least.ensures c.scaled.ensures

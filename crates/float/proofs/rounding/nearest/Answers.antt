@@ -8,8 +8,7 @@ use Rattle.float.proofs.rounding.nearest.Goals as goal
 
 pub by_rest-requires : goal.by_rest-requires
 by_rest-requires c =
-    let s = c in
-    (omega (arith, div-le_self s.args.m (2 ^ s.args.k)), masked_below s.args.m s.args.k 63 (omega arith) c.ones.ensures)
+    (omega (arith, div-le_self c.args.m (2 ^ c.args.k)), masked_below c.args.m c.args.k 63 (omega arith) c.ones.ensures)
 
 pub returns-then-k-lt64 : goal.returns-then-k-lt64
 returns-then-k-lt64 c = by_mask _ _ c.ones.ensures c.power.ensures c.by_rest.ensures

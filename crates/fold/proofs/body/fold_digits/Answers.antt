@@ -10,8 +10,7 @@ of-number-requires c = tt
 
 pub loop-k-init : goal.loop-k-init
 loop-k-init c =
-    let s = c in
-    (omega arith, taken_none s.args.body.now s.args.from s.args.radix (omega arith) c.of-number.ensures)
+    (omega arith, taken_none c.args.body.now c.args.from c.args.radix (omega arith) c.of-number.ensures)
 
 pub next_digit-next-requires : goal.next_digit-next-requires
 next_digit-next-requires c = c.loop-k.invariant.1.within
@@ -21,16 +20,14 @@ times-number-requires c = c.requires.0
 
 pub loop-k-preserved : goal.loop-k-preserved
 loop-k-preserved c =
-    let s = c in
     let l = c.loop-k in (
       omega arith,
-      taken_more s.args.body.now s.args.from s.args.radix l.invariant.1 c.next_digit-next.ensures s.requires.0 (omega arith)
+      taken_more c.args.body.now c.args.from c.args.radix l.invariant.1 c.next_digit-next.ensures c.requires.0 (omega arith)
           c.times-number.ensures,
     )
 
 pub returns : goal.returns
 returns c =
-    let s = c in
     let l = c.loop-k in
-    let e : l.k ≡ s.args.count = omega arith in
-    subst (λ (n : ℕ). Taken s.args.body.now s.args.from n s.args.radix l.number l.at) e l.invariant.1
+    let e : l.k ≡ c.args.count = omega arith in
+    subst (λ (n : ℕ). Taken c.args.body.now c.args.from n c.args.radix l.number l.at) e l.invariant.1

@@ -12,12 +12,8 @@ pub fit-requires : goal.fit-requires
 fit-requires c = (met _ _ _ _ _ c.of_call-fault.ensures c.if-fault-eq0.true).width
 
 pub returns-then-fault-eq0 : goal.returns-then-fault-eq0
-returns-then-fault-eq0 c =
-    let m = c in
-    let n = m in
-    let fault = n in
-    c.fit.ensures
-    ∙ ap signed_answer (from-done _ _ _ _ _ fault.of_call-fault.ensures signed n.if-fault-eq0.true n.negative-neg.ensures m.magnitude-m.ensures)
+returns-then-fault-eq0 c = c.fit.ensures
+    ∙ ap signed_answer (from-done _ _ _ _ _ c.of_call-fault.ensures signed c.if-fault-eq0.true c.negative-neg.ensures c.magnitude-m.ensures)
 
 pub returns : goal.returns
 returns c = refused-signed (from-refused _ _ _ _ _ c.of_call-fault.ensures signed c.if-fault-eq0.false)

@@ -20,8 +20,7 @@ returns-then-fault-ne0 c = refused-format _ _ _ c.check-fault.ensures c.if-fault
 
 pub returns-then-raw-le0 : goal.returns-then-raw-le0
 returns-then-raw-le0 c =
-    let a = c in
-    let below : a.args.raw ≤ℤ pos 0 = omega (signed, back a.ranges.raw) in
+    let below : c.args.raw ≤ℤ pos 0 = omega (signed, back c.ranges.raw) in
     refused-number _ _ _ c.check-fault.ensures c.if-fault-ne0.false below
 
 pub overflow_cast-raw : goal.overflow_cast-raw

@@ -8,9 +8,8 @@ use Rattle.tens.proofs.order.side.Goals as goal
 
 pub returns : goal.returns
 returns c =
-    let a = c in
-    let ds = digits_at a.args.body.now a.args.from in
+    let ds = digits_at c.args.body.now c.args.from in
     c.walk.ensures
     ∙ ap (λ (n : ℕ). order_ten ds n (2 ^ 64))
-    (c.sink.ensures ∙ ap (λ (n : ℕ). sink_of a.args.zeros n (2 ^ 64)) c.middle.ensures)
-    ∙ sym (order-sink a.args.zeros ds _ (2 ^ 64) (lit< tt) a.requires.2)
+    (c.sink.ensures ∙ ap (λ (n : ℕ). sink_of c.args.zeros n (2 ^ 64)) c.middle.ensures)
+    ∙ sym (order-sink c.args.zeros ds _ (2 ^ 64) (lit< tt) c.requires.2)

@@ -7,13 +7,10 @@ use Rattle.tens.specs.Walk.{lead-fits}
 use Rattle.tens.proofs.prefix.first.Goals as goal
 
 pub first_raw-requires : goal.first_raw-requires
-first_raw-requires c =
-    let s = c in (
-      subst (λ (n : ℕ). n < 10 ^ 27) (sym c.lead.ensures) (lead-fits s.args.zeros (digits_at s.args.body.now s.args.from) s.requires.2),
-      s.requires.3,
-    )
+first_raw-requires c = (
+  subst (λ (n : ℕ). n < 10 ^ 27) (sym c.lead.ensures) (lead-fits c.args.zeros (digits_at c.args.body.now c.args.from) c.requires.2),
+  c.requires.3,
+)
 
 pub returns : goal.returns
-returns c =
-    let s = c in
-    c.first_raw.ensures ∙ ap (first_raw s.args.frac) c.lead.ensures
+returns c = c.first_raw.ensures ∙ ap (first_raw c.args.frac) c.lead.ensures

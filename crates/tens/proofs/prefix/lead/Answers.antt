@@ -9,18 +9,15 @@ use Rattle.tens.proofs.prefix.lead.Goals as goal
 
 pub take-lower-requires : goal.take-lower-requires
 take-lower-requires c =
-    let s = c in
     let upper = c.take-upper.ensures in
-    (upper.within, omega arith, subst Small (sym upper.rest) (small-drop (19 - s.args.zeros) (digits_at s.args.body.now s.args.from) s.requires.2))
+    (upper.within, omega arith, subst Small (sym upper.rest) (small-drop (19 - c.args.zeros) (digits_at c.args.body.now c.args.from) c.requires.2))
 
 pub add-requires : goal.add-requires
 add-requires c =
-    let s = c in
-    group-sum s.args.body.now s.args.from s.args.zeros s.requires.1 c.take-upper.ensures c.take-lower.ensures c.mul.ensures
-    s.requires.2
+    group-sum c.args.body.now c.args.from c.args.zeros c.requires.1 c.take-upper.ensures c.take-lower.ensures c.mul.ensures
+    c.requires.2
 
 pub returns : goal.returns
 returns c =
-    let s = c in
-    c.add.ensures ∙ group-two s.args.body.now s.args.from s.args.zeros s.requires.1 c.take-upper.ensures
+    c.add.ensures ∙ group-two c.args.body.now c.args.from c.args.zeros c.requires.1 c.take-upper.ensures
     c.take-lower.ensures c.mul.ensures

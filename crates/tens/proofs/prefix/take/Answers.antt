@@ -14,37 +14,33 @@ loop-k-init c = (search rules, search rules, ap (λ (n : ℕ). lead_from n (digi
 pub overflow_mul-value : goal.overflow_mul-value
 overflow_mul-value c =
     let l = c.loop-k in
-    let s = c in
     omega (
       arith,
-      group-fits s.args.body.now s.args.from s.args.count l.k l.at l.value c.next_digit-next.ensures (omega arith)
-          (omega arith) s.requires.2 l.invariant.2,
+      group-fits c.args.body.now c.args.from c.args.count l.k l.at l.value c.next_digit-next.ensures (omega arith)
+          (omega arith) c.requires.2 l.invariant.2,
     )
 
 pub overflow_add-value : goal.overflow_add-value
 overflow_add-value c =
     let l = c.loop-k in
-    let s = c in
     omega (
       arith,
-      group-fits s.args.body.now s.args.from s.args.count l.k l.at l.value c.next_digit-next.ensures (omega arith)
-          (omega arith) s.requires.2 l.invariant.2,
+      group-fits c.args.body.now c.args.from c.args.count l.k l.at l.value c.next_digit-next.ensures (omega arith)
+          (omega arith) c.requires.2 l.invariant.2,
     )
 
 pub loop-k-preserved : goal.loop-k-preserved
 loop-k-preserved c =
     let l = c.loop-k in
-    let s = c in
     let next = c.next_digit-next.ensures in
-    let t = s.args.body.now in (
+    let t = c.args.body.now in (
       omega arith,
       next.within,
-      group-next t s.args.from s.args.count l.k l.at l.value next (omega arith) l.invariant.2,
-      group-rest t s.args.from s.args.count l.k l.at l.value next (omega arith) l.invariant.3,
+      group-next t c.args.from c.args.count l.k l.at l.value next (omega arith) l.invariant.2,
+      group-rest t c.args.from c.args.count l.k l.at l.value next (omega arith) l.invariant.3,
     )
 
 pub returns : goal.returns
 returns c =
     let l = c.loop-k in
-    let s = c in
-    group-end s.args.body.now s.args.from s.args.count l.k l.at l.value (omega arith) (omega arith) (omega arith) l.invariant.2 l.invariant.3
+    group-end c.args.body.now c.args.from c.args.count l.k l.at l.value (omega arith) (omega arith) (omega arith) l.invariant.2 l.invariant.3

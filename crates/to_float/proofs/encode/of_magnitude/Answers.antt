@@ -13,27 +13,23 @@ overflow_sub-digits c = leading_le 64 c.args.size
 
 pub shl_word-requires : goal.shl_word-requires
 shl_word-requires c =
-    let s = c in
-    let digits = digits-of s.args.size (omega arith) s.ranges.size.fits in
-    place-fits _ _ _ _ _ s.requires.0 digits s.requires.1 c.place.ensures
+    let digits = digits-of c.args.size (omega arith) c.ranges.size.fits in
+    place-fits _ _ _ _ _ c.requires.0 digits c.requires.1 c.place.ensures
 
 pub significand-requires : goal.significand-requires
 significand-requires c =
-    let s = c in
-    let digits = digits-of s.args.size (omega arith) s.ranges.size.fits in
-    (digits, s.requires.0.small.some, s.requires.0.small.most)
+    let digits = digits-of c.args.size (omega arith) c.ranges.size.fits in
+    (digits, c.requires.0.small.some, c.requires.0.small.most)
 
 pub overflow_add-result : goal.overflow_add-result
 overflow_add-result c =
-    let s = c in
-    let digits = digits-of s.args.size (omega arith) s.ranges.size.fits in
+    let digits = digits-of c.args.size (omega arith) c.ranges.size.fits in
     record {
-      fits = sum_fits _ _ _ _ _ s.requires.0 digits s.requires.1 c.place.ensures
+      fits = sum_fits _ _ _ _ _ c.requires.0 digits c.requires.1 c.place.ensures
           c.shl_word.ensures c.significand.ensures;
     }
 
 pub returns : goal.returns
 returns c =
-    let s = c in
-    let digits = digits-of s.args.size (omega arith) s.ranges.size.fits in
-    encoded _ _ _ _ _ s.requires.0 digits s.requires.1 c.place.ensures c.shl_word.ensures c.significand.ensures
+    let digits = digits-of c.args.size (omega arith) c.ranges.size.fits in
+    encoded _ _ _ _ _ c.requires.0 digits c.requires.1 c.place.ensures c.shl_word.ensures c.significand.ensures

@@ -18,10 +18,9 @@ returns-then-digits-precision c = c.shl_word.ensures ∙ sym (scaled-few _ _ _ c
 
 pub by_rest-requires : goal.by_rest-requires
 by_rest-requires c =
-    let s = c in
-    let most : s.args.size < 2 ^ 64 = s.ranges.size.fits in
-    let k = s.args.digits - s.args.precision in
-    (half-left s.args.size k most (omega arith), masked_below s.args.size k 63 (omega (arith, s.requires.0.most, s.requires.1)) c.ones.ensures)
+    let most : c.args.size < 2 ^ 64 = c.ranges.size.fits in
+    let k = c.args.digits - c.args.precision in
+    (half-left c.args.size k most (omega arith), masked_below c.args.size k 63 (omega (arith, c.requires.0.most, c.requires.1)) c.ones.ensures)
 
 pub returns : goal.returns
 returns c = by_mask _ _ c.ones.ensures c.power.ensures c.by_rest.ensures ∙ sym (scaled-many _ _ _ (omega arith))

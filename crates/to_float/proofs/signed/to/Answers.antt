@@ -9,10 +9,8 @@ pub encode-requires : goal.encode-requires
 encode-requires c = encode-room _ _ _ _ c.requires c.check-fault.ensures c.if-fault-eq0.true
 
 pub returns-then-fault-eq0 : goal.returns-then-fault-eq0
-returns-then-fault-eq0 c =
-    let s = c in
-    answer-signed _ _ _ c.check-fault.ensures c.if-fault-eq0.true s.args.raw
-    (to_z-of_z {w = w64} s.ranges.raw) c.magnitude.ensures c.encode.ensures
+returns-then-fault-eq0 c = answer-signed _ _ _ c.check-fault.ensures c.if-fault-eq0.true c.args.raw
+    (to_z-of_z {w = w64} c.ranges.raw) c.magnitude.ensures c.encode.ensures
 
 pub returns : goal.returns
 returns c = fault-unsigned _ _ c.check-fault.ensures c.if-fault-eq0.false

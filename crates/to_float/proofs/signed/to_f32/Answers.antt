@@ -10,5 +10,4 @@ use Rattle.to_float.proofs.signed.to_f32.Goals as goal
 
 pub returns : goal.returns
 returns c =
-    let s = c in
-    c.to.ensures ∙ ap (λ (z : ℤ). unsigned_answer (to_float_of binary32 s.args.width s.args.frac z)) (to_z-of_z {w = w64} s.ranges.raw)
+    c.to.ensures ∙ ap (λ (z : ℤ). unsigned_answer (to_float_of binary32 c.args.width c.args.frac z)) (to_z-of_z {w = w64} c.ranges.raw)

@@ -29,8 +29,7 @@ first-digit one = first-lt (shifted one.before.before) (first one)
 
 second-digit : (two : After-digit-second) → two.digit-second.result.quotient < 2 ^ 32
 second-digit two =
-    let one = two in
-    second_lt (shifted one.before.before.before.before) (first one.before.before) two.digit-second.ensures
+    second_lt (shifted two.before.before.before.before) (first two.before.before) two.digit-second.ensures
 
 pub shl_word-by-requires : goal.shl_word-by-requires
 shl_word-by-requires c = ((norm c).short, (norm c).fits)
@@ -40,8 +39,7 @@ digit-first-requires c = (b-top (shifted c.before), high-below (shifted c.before
 
 pub digit-second-requires : goal.digit-second-requires
 digit-second-requires c =
-    let one = c in
-    (b-top (shifted one.before.before.before), rest_below (shifted one.before.before.before) (first one.before), mask_lt one.shl-x.result.low 32)
+    (b-top (shifted c.before.before.before), rest_below (shifted c.before.before.before) (first c.before), mask_lt c.shl-x.result.low 32)
 
 pub overflow_mul-result : goal.overflow_mul-result
 overflow_mul-result c = omega (arith, first-digit c.before.before.before)
@@ -57,5 +55,4 @@ overflow_shr-result c = (norm c.before.before.before.before.before.before.before
 
 pub returns : goal.returns
 returns c =
-    let one = c in
-    both (shifted one.before.before.before.before.before.before.before) (first one.before.before.before.before.before) c.digit-second.ensures
+    both (shifted c.before.before.before.before.before.before.before) (first c.before.before.before.before.before) c.digit-second.ensures
