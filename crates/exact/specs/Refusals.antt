@@ -2,7 +2,8 @@
 use Rattle.std.specs.Prelude.{◌≡◌, refl, Bool, true, false, cond, ℕ, ◌≤◌, ◌<◌, eqb}
 use Rattle.std.proofs.Common.{sym, ◌∙◌, arith}
 use borrow.Author.Tests.{ne_eqb, eqb-true, eqb-false}
-use Rattle.format.specs.Meaning.{is_width, fault_of}
+use Rattle.format.specs.Meaning.{fault_of}
+use Rattle.format.specs.Width.{is_width}
 use Rattle.format.specs.Fault.{fault-free, width-bounds}
 use Rattle.exact.specs.Meaning.{or_else}
 
