@@ -1,6 +1,5 @@
 -- What a check says: the format that it lets through, or the refusal. Assumes nothing.
-use Rattle.std.specs.Prelude.{◌≡◌, Result, Ok, Err, ◌≢◌, cond, Bool, true, false, ℕ, eqb, refl}
-use Rattle.std.proofs.Common.{sym, ◌∙◌, arith}
+use Rattle.std.specs.Prelude.{◌≡◌, Ok, Err, ◌≢◌, cond, Bool, true, false, ℕ, eqb, refl}
 use borrow.Author.Tests.{eq-eqb, ne_eqb, eqb-true, eqb-false}
 use Rattle.format.specs.declared.refusal.Refusal.{Refusal}
 use Rattle.format.specs.Refusal.{named}

@@ -1,6 +1,6 @@
 -- What a format is, which raws it has, and what becomes of an exact number in each manner:
 -- document 01, "Domain and numbers". Assumes nothing.
-use Rattle.std.specs.Prelude.{Result, Ok, Err, Bool, true, false, cond, not, ◌&&◌, ◌||◌, ℕ, ◌-◌, ◌*◌, ◌+◌, ◌^◌, leb, eqb, ℤ, pos, neg_ℤ, ◌-ℤ◌, ◌*ℤ◌}
+use Rattle.std.specs.Prelude.{Result, Ok, Err, Bool, true, false, cond, not, ◌&&◌, ℕ, ◌-◌, ◌*◌, ◌+◌, ◌^◌, leb, eqb, ℤ, pos, neg_ℤ, ◌-ℤ◌, ◌*ℤ◌}
 use Rattle.std.specs.Int.Signed.{le_z, lt_z}
 use Rattle.laws.specs.Diff.{up}
 use Rattle.laws.specs.Floor.{floor}
@@ -9,7 +9,7 @@ use Rattle.format.specs.declared.Manner.TheVariants.{Strict, Saturating, Wrappin
 use Rattle.format.specs.declared.Answer.{Answer}
 use Rattle.format.specs.declared.refusal.Refusal.{Refusal}
 use Rattle.format.specs.Refusal.{number, named}
-use Rattle.format.specs.Width.{is_width}
+unfoldable pub use Rattle.format.specs.Width.{is_width}
 
 -- "A format is a width W (8, 16, 32 or 64), signed or unsigned, and F fraction bits, 0 to W."
 pub data Sign : Type 0 where

@@ -1,6 +1,6 @@
 -- A number as a sign and a magnitude, placed in a format by the magnitude alone: what the code tests and computes, and that it is
 -- what the meaning says. Assumes nothing.
-use Rattle.std.specs.Prelude.{◌≡◌, Option, Some, None, Bool, cond, ℕ, ◌+◌, ◌*◌, ◌-◌, ◌/◌, ◌%◌, ◌^◌, ◌≤◌, ◌<◌, min, leb, ltb, ℤ, ◌+ℤ◌, ◌*ℤ◌}
+use Rattle.std.specs.Prelude.{◌≡◌, Option, Some, None, Bool, cond, ℕ, ◌+◌, ◌*◌, ◌-◌, ◌/◌, ◌%◌, ◌^◌, ◌≤◌, ◌<◌, leb, ltb, ℤ, ◌+ℤ◌, ◌*ℤ◌}
 use Rattle.std.proofs.Math.Path.{refl, ap}
 use Rattle.std.proofs.Common.{sym, add-one, ◌∙◌, div-add-mod', arith, pow_pos, SFits}
 use Rattle.std.proofs.Math.Bool.{true, false}

@@ -78,14 +78,26 @@ pub fn fit<R: Raw>(x: Exact, format: Format, manner: Manner) -> Answered<R>
     match manner {
         Manner::Strict => {
             let size = within.ok_or(Refusal::Overflow)?;
-            Ok(Answer { raw: R::with_sign(x.neg, size, format), flag: false })
+            Ok(Answer {
+                raw: R::with_sign(x.neg, size, format),
+                flag: false,
+            })
         }
         Manner::Saturating => {
             let size = within.unwrap_or(end);
-            Ok(Answer { raw: R::with_sign(x.neg, size, format), flag: false })
+            Ok(Answer {
+                raw: R::with_sign(x.neg, size, format),
+                flag: false,
+            })
         }
-        Manner::Wrapping => Ok(Answer { raw: wrapped(x, format), flag: false }),
-        Manner::Overflowing => Ok(Answer { raw: wrapped(x, format), flag: within.is_none() }),
+        Manner::Wrapping => Ok(Answer {
+            raw: wrapped(x, format),
+            flag: false,
+        }),
+        Manner::Overflowing => Ok(Answer {
+            raw: wrapped(x, format),
+            flag: within.is_none(),
+        }),
     }
 }
 

@@ -8,7 +8,8 @@ use crate::shape::Format;
 pub(crate) fn within(high: u64, low: u64, limit: u64) -> Option<u64>
     ensures { result ≡ within_of high low limit }
 {
-    if high == 0 && low <= limit { Some(low) } else { None }
+    let inside = low <= limit;
+    if high == 0 && inside { Some(low) } else { None }
 }
 
 // The number modulo 2^W. The high word does not matter: 2^64 is a whole number of 2^W.
@@ -17,5 +18,9 @@ pub(crate) fn residue(neg: bool, low: u64, format: Format) -> u64
 {
     let all = format.top();
     let bits = low & all;
-    if neg && bits != 0 { all - (bits - 1) } else { bits }
+    if neg && bits != 0 {
+        all - (bits - 1)
+    } else {
+        bits
+    }
 }

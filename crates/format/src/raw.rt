@@ -108,7 +108,11 @@ pub fn with_sign(neg: bool, magnitude: u64) -> i64
     ensures { result ≡ with_sign neg magnitude }
 {
     if neg {
-        if magnitude == 0 { 0 } else { -1 - (magnitude - 1) as i64 }
+        if magnitude == 0 {
+            0
+        } else {
+            -1 - (magnitude - 1) as i64
+        }
     } else {
         magnitude as i64
     }

@@ -1,8 +1,8 @@
 -- `with_sign` meets its contract: each return is a case of the sign. Assumes nothing.
-use Rattle.std.proofs.Common.{arith, ◌<◌, ◌^◌, ◌-◌, ◌∙◌, neg_ℤ, pos}
+use Rattle.std.proofs.Common.{arith, ◌<◌, ◌^◌, ◌-◌}
 use mir.Syntax.{w64}
 use mir.Facts.{to_z-of_z}
-use Rattle.laws.specs.Signed.{word-pos, less_one, ok-back}
+use Rattle.laws.specs.Signed.{word-pos, less_one}
 use Rattle.format.specs.Place.{sign_zero, sign_below, sign_above, sign-below-fits, sign-above-fits}
 use Rattle.format.proofs.raw.with_sign.Goals as goal
 

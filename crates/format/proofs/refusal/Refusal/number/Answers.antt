@@ -1,5 +1,4 @@
 -- `Refusal::number` meets its promise, one refusal after another. Assumes nothing.
-use Rattle.std.proofs.Common.{ap}
 use Rattle.format.specs.Refusal.{number}
 use Rattle.format.proofs.refusal.Refusal.number.Goals as goal
 

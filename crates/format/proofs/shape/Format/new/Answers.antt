@@ -2,7 +2,7 @@
 use Rattle.std.proofs.lemmas.Result.{err_from_is_err_and}
 use Rattle.std.proofs.Math.Path.{refl}
 use Rattle.format.specs.Fault.{fault-free}
-use Rattle.format.specs.Checked.{Opens, Refuses, fault-checked, none-checked}
+use Rattle.format.specs.Checked.{fault-checked, none-checked}
 use Rattle.format.proofs.shape.Format.new.Goals as goal
 
 pub returns-in_err-check-clause-err : goal.returns-in_err-check-clause-err
