@@ -63,7 +63,7 @@ above_zero a m e = floor-zero a m e refl
 -- ---- what is left of a number above a multiple
 module _ (a m : ℕ) (h : 0 < m) where
   -- below zero the floor is one further down where something is left
-  floor_past : (a % m ≡ 0 → ⊥) → negsuc (a / m) ≡ floor (neg_ℤ (pos a)) m
+  pub floor_past : (a % m ≡ 0 → ⊥) → negsuc (a / m) ≡ floor (neg_ℤ (pos a)) m
   floor_past e =
       let q = negsuc (a / m) in
       floor-shr_z h (record {
@@ -71,7 +71,7 @@ module _ (a m : ℕ) (h : 0 < m) where
         high = omega (kit, mul-out q m, add-out (q *ℤ pos m) (pos m), up_neg (pos a), dn-neg (pos a), div-add-mod' a m, e);
       })
 
-  floor_whole : a % m ≡ 0 → neg_ℤ (pos (a / m)) ≡ floor (neg_ℤ (pos a)) m
+  pub floor_whole : a % m ≡ 0 → neg_ℤ (pos (a / m)) ≡ floor (neg_ℤ (pos a)) m
   floor_whole e =
       let q = neg_ℤ (pos (a / m)) in
       let none = ap (λ (n : ℕ). n * m) (up_neg (pos (a / m))) in
