@@ -1,6 +1,54 @@
-// Whole numbers of a format: a raw rounded to units of 2^F steps, then the
-// manner of `format`; and the two parts of a raw.
+// Whole numbers of a format: a raw rounded to units of 2^F steps, then the manner of `format`; and the two parts of a raw.
 #![tactic(auto)]
 
-pub mod signed;
-pub mod unsigned;
+ghost use Rattle.whole.specs.Promise.{Floor, Ceil, Round, Even, Int, Frac};
+
+use format::{Answered, Format, Manner, Raw};
+
+// The units at or below a
+pub fn floor<R: Raw>(a: R, width: u32, frac: u32, manner: Manner) -> Answered<R>
+    ensures { Floor R.kind a width frac manner result }
+{
+    let format = Format::new(width, frac)?;
+    format::fit(units::floor(exact::of(a), format), format, manner)
+}
+
+// The units at or above a
+pub fn ceil<R: Raw>(a: R, width: u32, frac: u32, manner: Manner) -> Answered<R>
+    ensures { Ceil R.kind a width frac manner result }
+{
+    let format = Format::new(width, frac)?;
+    format::fit(units::ceil(exact::of(a), format), format, manner)
+}
+
+// The units nearest to a, ties away from zero
+pub fn round<R: Raw>(a: R, width: u32, frac: u32, manner: Manner) -> Answered<R>
+    ensures { Round R.kind a width frac manner result }
+{
+    let format = Format::new(width, frac)?;
+    format::fit(units::round(exact::of(a), format), format, manner)
+}
+
+// The units nearest to a, ties to even
+pub fn round_ties_even<R: Raw>(a: R, width: u32, frac: u32, manner: Manner) -> Answered<R>
+    ensures { Even R.kind a width frac manner result }
+{
+    let format = Format::new(width, frac)?;
+    format::fit(units::round_ties_even(exact::of(a), format), format, manner)
+}
+
+// The integer part; 0 where the format has no integer bits
+pub fn int<R: Raw>(a: R, width: u32, frac: u32, manner: Manner) -> Answered<R>
+    ensures { Int R.kind a width frac manner result }
+{
+    let format = Format::new(width, frac)?;
+    format::fit(units::int(exact::of(a), format), format, manner)
+}
+
+// What the integer part leaves of a
+pub fn frac<R: Raw>(a: R, width: u32, frac: u32, manner: Manner) -> Answered<R>
+    ensures { Frac R.kind a width frac manner result }
+{
+    let format = Format::new(width, frac)?;
+    format::fit(units::frac(exact::of(a), format), format, manner)
+}
