@@ -1,5 +1,5 @@
 -- The operations on signs and magnitudes, as the code computes them, for the crate `further` too. Assumes nothing.
-use Rattle.std.specs.Prelude.{◌≡◌, refl, Bool, true, false, not, ℕ, zero, suc, ◌+◌, ◌*◌, ◌-◌, ◌/◌, ◌%◌, ◌^◌, ◌≤◌, ◌<◌, min, ℤ, pos, negsuc, neg_ℤ, nat_abs, ◌+ℤ◌, ◌*ℤ◌}
+use Rattle.std.specs.Prelude.{◌≡◌, refl, Bool, true, false, not, ℕ, zero, suc, ◌+◌, ◌*◌, ◌-◌, ◌/◌, ◌%◌, ◌^◌, ◌≤◌, ◌<◌, ℤ, pos, negsuc, neg_ℤ, nat_abs, ◌+ℤ◌, ◌*ℤ◌}
 use Rattle.std.proofs.Common.{sym, ap, ◌∙◌, arith, le_trans, div-le_self, mul-le-mul_left, mul-le-mul_right}
 use Rattle.std.specs.Bool.{beq}
 use Rattle.std.specs.Int.{div_ceil}
@@ -11,9 +11,6 @@ use Rattle.exact.specs.Meaning.{number_of}
 use Rattle.units.specs.Units.{floor_past, floor_whole}
 use Rattle.exact.specs.Signs.{negated, abs-sign, one_word, sum_same, sum-apart, sum-turned}
 use Rattle.results.specs.Meaning.{quot_euclid}
-
-pub via₃ : (op : ℤ → ℤ → ℤ → ℤ) {x y z r a b c : ℤ} → x ≡ a → y ≡ b → z ≡ c → r ≡ op x y z → r ≡ op a b c
-via₃ op {y = y} {z = z} {a = a} {b = b} p q s e = e ∙ ap (λ (v : ℤ). op v y z) p ∙ ap (λ (v : ℤ). op a v z) q ∙ ap (op a b) s
 
 -- the size of a number, as a number that is not negative
 pub size_of : (n : Bool) (v : ℕ) {z : ℤ} → with_sign n v ≡ z → with_sign false v ≡ pos (nat_abs z)
@@ -70,7 +67,3 @@ ceil-turned a m {v} h t e = rw t (go (a % m) refl)
     go (suc r) s =
         let past : v ≡ suc (a / m) = omega (arith, e, s) in
         ap (λ (k : ℕ). neg_ℤ (pos k)) past ∙ floor_past a m h (λ z. omega (arith, z, s))
-
--- -1, 0 or 1
-pub sign-none : min 0 1 ≡ 0
-sign-none = refl
