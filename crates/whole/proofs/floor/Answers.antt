@@ -1,14 +1,7 @@
--- `whole::floor` meets its promise: the format's refusals, then the floor, fitted. Assumes nothing.
-use Rattle.std.proofs.Common.{ℕ, ℤ, ◌^◌}
-use Rattle.format.specs.Answer.{exit-answered}
+-- `whole::floor` meets its promise: the step is the floor. Assumes nothing.
+use Rattle.std.proofs.Common.{ℕ, ℤ, ◌^◌, rules}
 use Rattle.units.specs.Meaning.{floor_to}
-use Rattle.units.specs.Stepped.{stepped}
 use Rattle.whole.proofs.floor.Goals as goal
 
-pub returns-in_err-format : goal.returns-in_err-format
-returns-in_err-format g c =
-    exit-answered g.R.Raw.kind _ _ c.from_residual.result c.from_residual.ensures.1 c.in_err-format.ensures.err
-
 pub returns : goal.returns
-returns g c =
-    stepped g.R.Raw.kind _ (λ (w f : ℕ) (z : ℤ). floor_to z (2 ^ f)) c.in_ok-format.ensures.ok c.of.ensures c.floor.ensures c.fit.ensures
+returns g c = c.stepped.ensures (λ (w f : ℕ) (z : ℤ). floor_to z (2 ^ f)) (λ x y e h. search rules)

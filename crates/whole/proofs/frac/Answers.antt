@@ -1,13 +1,7 @@
--- `whole::frac` meets its promise: the format's refusals, then the fraction, fitted. Assumes nothing.
-use Rattle.format.specs.Answer.{exit-answered}
+-- `whole::frac` meets its promise: the step is the fraction. Assumes nothing.
+use Rattle.std.proofs.Common.{rules}
 use Rattle.units.specs.Meaning.{frac_part}
-use Rattle.units.specs.Stepped.{stepped}
 use Rattle.whole.proofs.frac.Goals as goal
 
-pub returns-in_err-format : goal.returns-in_err-format
-returns-in_err-format g c =
-    exit-answered g.R.Raw.kind _ _ c.from_residual.result c.from_residual.ensures.1 c.in_err-format.ensures.err
-
 pub returns : goal.returns
-returns g c =
-    stepped g.R.Raw.kind _ frac_part c.in_ok-format.ensures.ok c.of.ensures c.frac.ensures c.fit.ensures
+returns g c = c.stepped.ensures frac_part (λ x y e h. search rules)
