@@ -1,24 +1,17 @@
--- `digits::len` meets its contract. The invariant: the digits counted and those of what is left make up the digits.
+-- `digits::len` meets its contract: the chain counts the bytes that are no `_`.
 -- Assumes nothing.
-use mathlib.Core.Path.{ap}
-use native.Mathlib.Omega.{arith}
-use lib.ListN.{length}
-use Rattle.digits.proofs.Turns.{turn, end-front, digits-skip, digits_more, digits-end}
+use Rattle.std.proofs.Common.{eqb, not, ap, ◌∙◌, rules, tests, length}
+use Rattle.std.proofs.lemmas.Iterator.{YieldsList-from_slice}
+use Rattle.std.proofs.lemmas.Iterator.Consumers.{count_from_yields_List, YieldsList-from_filter}
+use Rattle.digits.specs.Meaning.{is_und}
+use Rattle.digits.proofs.Ends.{filtered-is}
 use Rattle.digits.proofs.len.Goals as goal
-use Rattle.digits.proofs.len.Goals.{then-view-i-ne95, else-view-i-ne95}
-
-pub loop-i-preserved : goal.loop-i-preserved
-loop-i-preserved c =
-    let t = c.args.view.now in
-    let i = c.loop-i.i in
-    let e = turn t i (omega arith) in
-    elim c.if-view-i-ne95.branch [
-      | then-view-i-ne95 w ↦ (omega arith, omega arith, omega (arith, ap length (digits_more e w.if-view-i-ne95.true)))
-      | else-view-i-ne95 w ↦ (omega arith, omega arith, omega (arith, ap length (digits-skip e w.if-view-i-ne95.false)))
-    ]
 
 pub returns : goal.returns
+unfolding is_und
 returns c =
     let t = c.args.view.now in
-    let i = c.loop-i.i in
-    omega (arith, digits-end (end-front t i (omega arith)))
+    count_from_yields_List c.filter.result _ c.count.ensures.ran
+    (YieldsList-from_filter _ (λ b. not (eqb b 95)) (YieldsList-from_slice t cc)
+    c.filter.ensures.closure (λ x b q k. search (rules, tests)))
+    ∙ ap length (filtered-is t)
