@@ -75,16 +75,9 @@ module _ (t : List ℕ) (x : DigitsExp) (is : IsExp t x) where
       × (x.leading_zeros + x.part1.digits + x.part2.digits + x.trailing_zeros < 2 ^ 64)
   len-fits h = (omega (arith, len_is), omega (arith, len_is), omega (arith, len_is))
 
--- ---- the four counts, from what the code computes
-pub cut-is : (x : DigitsExp) (n : ℕ) {p q s f o w y : ℕ} → p ≡ n - x.leading_zeros → q ≡ p - x.part1.digits → s ≡ q - x.part2.digits
-    → f ≡ min n x.leading_zeros → o ≡ min p x.part1.digits → w ≡ min q x.part2.digits → y ≡ min s x.trailing_zeros
-    → ◌≡◌ {A = Counts} (record { front = f; one = o; two = w; behind = y }) (cut_of x n)
-unfolding cut_of
-cut-is x n ep eq es ef eo ew ey = cc
-
+-- ---- the four counts
 module _ (x : DigitsExp) (n : ℕ) {k : Counts} (e : k ≡ cut_of x n) where
   pub cut-within : (k.front ≤ x.leading_zeros) × (k.one ≤ x.part1.digits) × (k.two ≤ x.part2.digits) × (k.behind ≤ x.trailing_zeros)
-  unfolding cut_of
   cut-within = rw e (omega arith, omega arith, omega arith, omega arith)
 
 -- ---- to take the first digits, or to drop them: what is done to the whole is done to each of the four
@@ -105,7 +98,7 @@ module _ (op : ℕ → List ℕ → List ℕ) (append : (n : ℕ) (s t : List �
         → Stands t a (op k.one (span_of t x.part1)) → Stands t b (op k.two (span_of t x.part2))
         → zeros q ≡ op (n - x.leading_zeros - x.part1.digits - x.part2.digits) (zeros x.trailing_zeros)
         → StandsExp t (record { leading_zeros = p; part1 = a; part2 = b; trailing_zeros = q }) (op n (digits_exp_of t x))
-    unfolding cut_of digits_exp_of
+    unfolding digits_exp_of
     by_parts one sa sb four' =
         let z = x.leading_zeros in
         let y = zeros x.trailing_zeros in
@@ -129,7 +122,6 @@ module _ (op : ℕ → List ℕ → List ℕ) (append : (n : ℕ) (s t : List �
 module _ (x : DigitsExp) (n : ℕ) {k : Counts} (e : k ≡ cut_of x n) (t : List ℕ) (is : IsExp t x) {a b : Span} where
   pub upto-exp : Stands t a (take k.one (span_of t x.part1)) → Stands t b (take k.two (span_of t x.part2))
       → StandsExp t (record { leading_zeros = k.front; part1 = a; part2 = b; trailing_zeros = k.behind }) (take n (digits_exp_of t x))
-  unfolding cut_of
   upto-exp sa sb =
       by_parts take take-append take_min x n e t is
       (ap (λ (c : Counts). zeros c.front) e ∙ take-zeros-min n x.leading_zeros) sa sb
@@ -139,7 +131,6 @@ module _ (x : DigitsExp) (n : ℕ) {k : Counts} (e : k ≡ cut_of x n) (t : List
   pub from-exp : Stands t a (drop k.one (span_of t x.part1)) → Stands t b (drop k.two (span_of t x.part2))
       → StandsExp t (record { leading_zeros = x.leading_zeros - k.front; part1 = a; part2 = b; trailing_zeros = x.trailing_zeros - k.behind })
       (drop n (digits_exp_of t x))
-  unfolding cut_of
   from-exp sa sb =
       by_parts drop drop-append drop_min x n e t is
       (ap (λ (c : Counts). zeros (x.leading_zeros - c.front)) e ∙ drop-zeros-min n x.leading_zeros) sa sb

@@ -1,15 +1,15 @@
 // An exponent moves digits between integer and fraction; then the zeros at the outer ends are dropped.
-ghost use Rattle.std.specs.Prelude.{◌≡◌, cond, ◌++◌, eqb, nat_abs};
+ghost use Rattle.std.specs.Prelude.{◌≡◌, cond, ◌++◌, eqb};
 ghost use Rattle.laws.specs.Text.{zeros};
 ghost use Rattle.digits.specs.Meaning.{is_zero, drop_while, drop_back};
 ghost use Rattle.digits_exp.specs.Meaning.{span_of, IsSpan, StandsExp, right_int, right_frac, left_int, left_frac};
 ghost use Rattle.digits_exp.specs.Inner.{empty_exp, StandsPair, Moved};
 
-use super::{DigitsExp, IntFrac, Pair, Span, view};
+use super::{DigitsExp, IntFrac, Span, view};
 
 // Two views without the zeros in front: where the first is all zeros, the second
 // takes its place (S's `new2`, its first half).
-fn strip_front(text: &[u8], a: Span, b: Span) -> Pair
+fn strip_front(text: &[u8], a: Span, b: Span) -> (Span, Span)
     requires { IsSpan text.now a × IsSpan text.now b }
     ensures { StandsPair text.now result
         (drop_while is_zero (span_of text.now a ++ span_of text.now b)) }
@@ -17,16 +17,13 @@ fn strip_front(text: &[u8], a: Span, b: Span) -> Pair
     let first = view::without_leading_zeros(text, a);
     if first.digits == 0 {
         let second = view::without_leading_zeros(text, b);
-        return Pair {
-            first: second,
-            second: view::empty(),
-        };
+        return (second, view::empty());
     }
-    Pair { first, second: b }
+    (first, b)
 }
 
 // The same from behind (S's `new2`, its second half).
-fn strip_back(text: &[u8], a: Span, b: Span) -> Pair
+fn strip_back(text: &[u8], a: Span, b: Span) -> (Span, Span)
     requires { IsSpan text.now a × IsSpan text.now b }
     ensures { StandsPair text.now result
         (drop_back is_zero (span_of text.now a ++ span_of text.now b)) }
@@ -34,12 +31,9 @@ fn strip_back(text: &[u8], a: Span, b: Span) -> Pair
     let second = view::without_trailing_zeros(text, b);
     if second.digits == 0 {
         let first = view::without_trailing_zeros(text, a);
-        return Pair {
-            first,
-            second: view::empty(),
-        };
+        return (first, view::empty());
     }
-    Pair { first: a, second }
+    (a, second)
 }
 
 // Two views and `extra` zeros behind, without the zeros in front: the digits of an integer.
@@ -48,9 +42,7 @@ fn new_int(text: &[u8], a: Span, b: Span, extra: usize) -> DigitsExp
     ensures { StandsExp text.now result
         (drop_while is_zero ((span_of text.now a ++ span_of text.now b) ++ zeros extra)) }
 {
-    let s = strip_front(text, a, b);
-    let part1 = s.first;
-    let part2 = s.second;
+    let (part1, part2) = strip_front(text, a, b);
     let trailing_zeros = if_digits(part1, part2, extra);
     DigitsExp {
         leading_zeros: 0,
@@ -66,9 +58,7 @@ fn new_frac(text: &[u8], extra: usize, a: Span, b: Span) -> DigitsExp
     ensures { StandsExp text.now result
         (drop_back is_zero (zeros extra ++ (span_of text.now a ++ span_of text.now b))) }
 {
-    let s = strip_back(text, a, b);
-    let part1 = s.first;
-    let part2 = s.second;
+    let (part1, part2) = strip_back(text, a, b);
     let leading_zeros = if_digits(part1, part2, extra);
     DigitsExp {
         leading_zeros,
@@ -82,13 +72,7 @@ fn new_frac(text: &[u8], extra: usize, a: Span, b: Span) -> DigitsExp
 fn if_digits(a: Span, b: Span, extra: usize) -> usize
     ensures { result ≡ cond (eqb a.digits 0) (cond (eqb b.digits 0) 0 extra) extra }
 {
-    if a.digits == 0 {
-        if b.digits == 0 {
-            return 0;
-        }
-        return extra;
-    }
-    extra
+    if a.digits == 0 && b.digits == 0 { 0 } else { extra }
 }
 
 // The number with no digits at all.
@@ -103,26 +87,15 @@ fn nothing() -> DigitsExp
     }
 }
 
-// How many places an exponent moves the point.
-pub(crate) fn places(exp: i32) -> usize
-    ensures { result ≡ nat_abs exp }
-{
-    if exp < 0 {
-        return (0 - exp as i64) as usize;
-    }
-    exp as usize
-}
-
 // The point n places to the right: the first n digits of the fraction go to the integer,
 // with zeros behind them where there are fewer.
 pub(crate) fn move_right(text: &[u8], int: Span, frac: Span, n: usize) -> IntFrac
     requires { IsSpan text.now int × IsSpan text.now frac }
     ensures { Moved text.now result (right_int n) (right_frac n) int frac }
 {
-    let digits = frac.digits;
-    if digits <= n {
+    if frac.digits <= n {
         return IntFrac {
-            int: new_int(text, int, frac, n - digits),
+            int: new_int(text, int, frac, n - frac.digits),
             frac: nothing(),
         };
     }
@@ -140,15 +113,14 @@ pub(crate) fn move_left(text: &[u8], int: Span, frac: Span, n: usize) -> IntFrac
     requires { IsSpan text.now int × IsSpan text.now frac }
     ensures { Moved text.now result (left_int n) (left_frac n) int frac }
 {
-    let digits = int.digits;
-    if digits <= n {
+    if int.digits <= n {
         return IntFrac {
             int: nothing(),
-            frac: new_frac(text, n - digits, int, frac),
+            frac: new_frac(text, n - int.digits, int, frac),
         };
     }
-    let left = view::keep(text, int, digits - n);
-    let moved = view::skip(text, int, digits - n);
+    let left = view::keep(text, int, int.digits - n);
+    let moved = view::skip(text, int, int.digits - n);
     IntFrac {
         int: new_int(text, left, view::empty(), 0),
         frac: new_frac(text, 0, moved, frac),

@@ -38,9 +38,8 @@ fn split_upto(text: &[u8], s: Span, mid: usize) -> Span
     requires { (0 < mid) × (mid ≤ length (span_of text.now s)) }
     ensures { Stands text.now result (take mid (span_of text.now s)) }
 {
-    let from = s.from;
     let run = super::view_of(text, s);
-    trim(text, from, from + count::place(run, mid))
+    trim(text, s.from, s.from + count::place(run, mid))
 }
 
 // The second part.
@@ -48,10 +47,8 @@ fn split_from(text: &[u8], s: Span, mid: usize) -> Span
     requires { (0 < mid) × (mid ≤ length (span_of text.now s)) }
     ensures { Stands text.now result (drop mid (span_of text.now s)) }
 {
-    let from = s.from;
-    let to = s.to;
     let run = super::view_of(text, s);
-    trim(text, from + count::place(run, mid), to)
+    trim(text, s.from + count::place(run, mid), s.to)
 }
 
 // The first n digits of a view that has as many.

@@ -6,9 +6,9 @@ use Rattle.digits_exp.proofs.new_int_frac.Goals as goal
 pub returns-then-exp-lt0 : goal.returns-then-exp-lt0
 returns-then-exp-lt0 c =
     goes_left _ _ _ _ c.ranges.exp c.trim-int.ensures
-    c.trim-frac.ensures c.places-n.ensures c.if-exp-lt0.true c.move_left.ensures
+    c.trim-frac.ensures c.unsigned_abs-n.ensures.value c.if-exp-lt0.true c.move_left.ensures
 
 pub returns : goal.returns
 returns c =
     goes-right _ _ _ _ c.ranges.exp c.trim-int.ensures
-    c.trim-frac.ensures c.places-n.ensures c.if-exp-lt0.false c.move_right.ensures
+    c.trim-frac.ensures c.unsigned_abs-n.ensures.value c.if-exp-lt0.false c.move_right.ensures

@@ -5,8 +5,8 @@ use Rattle.digits_exp.proofs.Spans.{empty_stands}
 use Rattle.digits_exp.proofs.Moves.{left-moved-all, left-moved-some}
 use Rattle.digits_exp.proofs.moving.move_left.Goals as goal
 
-pub returns-then-digits-n : goal.returns-then-digits-n
-returns-then-digits-n c =
+pub returns-then-int-n : goal.returns-then-int-n
+returns-then-int-n c =
     left-moved-all _ _ _ _ c.requires.0 (omega arith) c.nothing.ensures c.new_frac.ensures
 
 pub new_int-requires : goal.new_int-requires

@@ -5,8 +5,8 @@ use Rattle.digits_exp.proofs.Spans.{empty_stands}
 use Rattle.digits_exp.proofs.Moves.{right-moved-all, right-moved-some}
 use Rattle.digits_exp.proofs.moving.move_right.Goals as goal
 
-pub returns-then-digits-n : goal.returns-then-digits-n
-returns-then-digits-n c =
+pub returns-then-frac-n : goal.returns-then-frac-n
+returns-then-frac-n c =
     right-moved-all _ _ _ _ c.requires.1 (omega arith) c.new_int.ensures c.nothing.ensures
 
 pub new_frac-requires : goal.new_frac-requires

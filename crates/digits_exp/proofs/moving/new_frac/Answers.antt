@@ -5,4 +5,4 @@ use Rattle.digits_exp.proofs.moving.new_frac.Goals as goal
 
 pub returns : goal.returns
 returns c =
-    frac-stands _ _ _ _ c.if_digits-leading_zeros.ensures c.strip_back-s.ensures
+    frac-stands _ _ _ _ c.if_digits-leading_zeros.ensures c.strip_back.ensures

@@ -5,4 +5,4 @@ use Rattle.digits_exp.proofs.moving.new_int.Goals as goal
 
 pub returns : goal.returns
 returns c =
-    int-stands _ _ _ _ c.if_digits-trailing_zeros.ensures c.strip_front-s.ensures
+    int-stands _ _ _ _ c.if_digits-trailing_zeros.ensures c.strip_front.ensures

@@ -5,8 +5,8 @@ use Rattle.digits_exp.specs.Meaning.{span_of}
 use Rattle.digits_exp.proofs.Spans.{split-within, upto-stands}
 use Rattle.digits_exp.proofs.view.split_upto.Goals as goal
 
-pub overflow_add-from : goal.overflow_add-from
-overflow_add-from c =
+pub overflow_add-s : goal.overflow_add-s
+overflow_add-s c =
     omega (
       arith,
       split-within c.args.text.now c.args.s.from c.args.s.to
