@@ -84,12 +84,15 @@ module _ (t : List ℕ) (x : DigitsExp) (is : IsExp t x) where
       module _ (w : x.part2.digits ≤ 0) where
         -- a zero behind
         pub first-behind : 0 < x.trailing_zeros
-            → SplitFirst t x (Some (48, record {
-              leading_zeros = x.leading_zeros;
-              part1 = x.part1;
-              part2 = x.part2;
-              trailing_zeros = x.trailing_zeros - 1;
-            }))
+            → SplitFirst t x (Some (
+              48,
+              record {
+                leading_zeros = x.leading_zeros;
+                part1 = x.part1;
+                part2 = x.part2;
+                trailing_zeros = x.trailing_zeros - 1;
+              },
+            ))
         unfolding first_digits RestIs digits_exp_of
         first-behind h =
             let n = no-zeros x.leading_zeros z in

@@ -1,9 +1,11 @@
 -- What inner functions of the second layer promise. No promise of a public function cites these. Assumes nothing.
-use Rattle.std.specs.Prelude.{◌≡◌, List, ◌++◌, ℕ, ◌-◌, min}
+use Rattle.std.specs.Prelude.{◌≡◌, List, ◌++◌, ℕ, ◌-◌, min, length}
 use Rattle.digits_exp.specs.declared.Span.{Span}
 use Rattle.digits_exp.specs.declared.DigitsExp.{DigitsExp}
 use Rattle.digits_exp.specs.declared.IntFrac.{IntFrac}
 use Rattle.digits_exp.specs.declared.Counts.{Counts}
+use Rattle.laws.specs.Lists.{part}
+use Rattle.digits.specs.Meaning.{trimmed}
 use Rattle.digits_exp.specs.Meaning.{span_of, IsSpan, StandsDropped}
 
 -- a view and a whole with no digits
@@ -12,6 +14,10 @@ empty_span = record { from = 0; to = 0; digits = 0 }
 
 abbrev pub empty_exp : DigitsExp
 empty_exp = record { leading_zeros = 0; part1 = empty_span; part2 = empty_span; trailing_zeros = 0 }
+
+-- What a type says of its span of a text, in equations: what `IsSpan` says
+abbrev pub Held : List ℕ → Span → Type 0
+Held text s = (trimmed (part text s.from s.to) ≡ part text s.from s.to) × (s.digits ≡ length (span_of text s))
 
 -- two views, one after the other
 pub record StandsPair (text : List ℕ) (p : Span × Span) (d : List ℕ) : Type 0 where

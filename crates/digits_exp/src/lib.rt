@@ -11,7 +11,12 @@ mod part;
 mod splitting;
 mod view;
 
-// A view: the text from `from` up to `to`, and how many digits it has.
+use moving::Pair;
+use splitting::Whole;
+use view::View;
+
+// A view: the text from `from` up to `to`, and how many digits it has. Without the text and its invariant, which `View`
+// has: `view_of` answers for any span.
 #[derive(Clone, Copy)]
 pub struct Span {
     pub from: usize,
@@ -62,13 +67,15 @@ pub fn new_int_frac(
 ) -> IntFrac
     ensures { NewIntFrac text.now int_from int_to frac_from frac_to exp result }
 {
-    let int = view::trim(text, int_from, int_to);
-    let frac = view::trim(text, frac_from, frac_to);
+    let a = view::trim(text, int_from, int_to);
+    let b = view::trim(text, frac_from, frac_to);
+    let both = Pair { text, a, b };
     let n = exp.unsigned_abs() as usize;
     if exp < 0 {
-        return moving::move_left(text, int, frac, n);
+        both.move_left(n)
+    } else {
+        both.move_right(n)
     }
-    moving::move_right(text, int, frac, n)
 }
 
 // How many digits there are. Whoever calls it shows that the count fits.
@@ -84,7 +91,8 @@ pub fn split_at(text: &[u8], d: DigitsExp, mid: usize) -> (DigitsExp, DigitsExp)
     requires { IsExp text.now d }
     ensures { SplitAt text.now d mid result }
 {
-    (splitting::upto(text, d, mid), splitting::from(text, d, mid))
+    let whole = Whole { text, digits: d };
+    (whole.upto(mid), whole.from(mid))
 }
 
 // The first digit and the others, if there is one: a zero in front, a digit of either view, or a zero behind.
@@ -97,14 +105,14 @@ pub fn split_first(text: &[u8], mut d: DigitsExp) -> Option<(u8, DigitsExp)>
         return Some((b'0', d));
     }
     if 0 < d.part1.digits {
-        let digit = splitting::first_digit(text, d.part1);
-        d.part1 = view::skip(text, d.part1, 1);
-        return Some((digit, d));
+        let part1 = View { text, at: d.part1 };
+        d.part1 = part1.skip(1);
+        return Some((part1.first_digit(), d));
     }
     if 0 < d.part2.digits {
-        let digit = splitting::first_digit(text, d.part2);
-        d.part2 = view::skip(text, d.part2, 1);
-        return Some((digit, d));
+        let part2 = View { text, at: d.part2 };
+        d.part2 = part2.skip(1);
+        return Some((part2.first_digit(), d));
     }
     if 0 < d.trailing_zeros {
         d.trailing_zeros -= 1;
