@@ -12,5 +12,5 @@ view_digits v = span_of v.text.now v.at
 abbrev pub pair_digits : Pair → List ℕ
 pair_digits p = span_of p.text.now p.a ++ span_of p.text.now p.b
 
-abbrev pub whole_digits : Whole → List ℕ
-whole_digits w = digits_exp_of w.text.now w.digits
+abbrev pub exp_digits : Whole → List ℕ
+exp_digits w = digits_exp_of w.text.now w.digits

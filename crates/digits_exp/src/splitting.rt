@@ -31,11 +31,11 @@ fn cut(d: DigitsExp, mid: usize) -> Counts
 }
 
 impl<'a> Whole<'a> {
-    ghost use Rattle.digits_exp.specs.Views.{whole_digits};
+    ghost use Rattle.digits_exp.specs.Views.{exp_digits};
 
     // The first `mid` digits: all where there are fewer.
     pub(crate) fn upto(self, mid: usize) -> DigitsExp
-        ensures { StandsExp self.entry.text.now result (take mid (whole_digits self.entry)) }
+        ensures { StandsExp self.entry.text.now result (take mid (exp_digits self.entry)) }
     {
         let Whole { text, digits: d } = self;
         let c = cut(d, mid);
@@ -49,7 +49,7 @@ impl<'a> Whole<'a> {
 
     // The digits after the first `mid`: none where there are fewer.
     pub(crate) fn from(self, mid: usize) -> DigitsExp
-        ensures { StandsExp self.entry.text.now result (drop mid (whole_digits self.entry)) }
+        ensures { StandsExp self.entry.text.now result (drop mid (exp_digits self.entry)) }
     {
         let Whole { text, digits: d } = self;
         let c = cut(d, mid);
