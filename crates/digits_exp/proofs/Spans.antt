@@ -24,9 +24,6 @@ pub held-is : {t : List ℕ} {s : Span} → IsSpan t s → Held t s
 held-is h = (view-trimmed _ h.view, h.count)
 
 -- ---- a part of the text
-pub part_none : (t : List ℕ) (a e : ℕ) {r : List ℕ} → e ≤ a → r ≡ take 0 t → r ≡ part t a e
-part_none t a e h q = let z : 0 ≡ e - a = omega arith in q ∙ ap (λ (k : ℕ). take k (drop a t)) z
-
 pub part-within : (t : List ℕ) (a e : ℕ) → length (part t a e) ≤ length t - a
 part-within t a e = simp (length-take, length-drop) (omega arith)
 

@@ -15,8 +15,8 @@ use moving::Pair;
 use splitting::Whole;
 use view::View;
 
-// A view: the text from `from` up to `to`, and how many digits it has. Without the text and its invariant, which `View`
-// has: `view_of` answers for any span.
+// A view: the text from `from` up to `to`, and how many digits it has. Plain, since `view_of` answers for any span:
+// `View` has the text and the invariant.
 #[derive(Clone, Copy)]
 pub struct Span {
     pub from: usize,
@@ -24,6 +24,7 @@ pub struct Span {
     pub digits: usize,
 }
 
+// Plain too, since the promises (`IsExp`, `StandsExp`) speak of a text beside it: `Whole` has both and the invariant.
 #[derive(Clone, Copy)]
 pub struct DigitsExp {
     pub leading_zeros: usize,
