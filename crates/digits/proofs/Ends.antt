@@ -1,4 +1,4 @@
--- The bytes at the ends of a run: what the library's chains count is what the meaning counts, what one byte more makes of the place of a digit,
+-- The bytes of a run: what the library's chains count is what the meaning counts, what one byte more makes of the digits and of the place of a digit,
 -- and the first and the last byte. Assumes nothing.
 use Rattle.std.proofs.Common.{◌≡◌, refl, sym, ap, ◌∙◌, arith, add-one, drop-cons, drop_of_length-le, eq-eqb, ne_eqb, rules}
 use Rattle.std.specs.Prelude.{Bool, true, false, cond, not, ℕ, ◌+◌, ◌-◌, ◌≤◌, ◌<◌, List, [], ◌∷◌, reverse, length, drop, get_or, filter, slice_get, Some}
@@ -28,8 +28,16 @@ pub zeros-counted : (t : List ℕ) → length (taken is_zero (filter (λ (b : �
 unfolding leading_zeros
 zeros-counted t = ap length (ap (taken is_zero) (filtered-is t) ∙ taken-is is_zero (digits_of t))
 
--- ---- the place of a digit: l is what is left of the run, u what is left after the byte b
+-- ---- the digits, and the place of a digit: l is what is left of the run, u what is left after the byte b
 module _ {l u : List ℕ} {b : ℕ} (e : l ≡ b ∷ u) where
+  pub digits-skip : b ≡ 95 → length (digits_of l) ≡ length (digits_of u)
+  unfolding digits_of is_und
+  digits-skip h = rw (e, eq-eqb b 95 h)
+
+  pub digits_more : (b ≡ 95 → ⊥) → length (digits_of l) ≡ length (digits_of u) + 1
+  unfolding digits_of is_und
+  digits_more h = rw (e, ne_eqb b 95 h, add-one)
+
   pub head-stop : (n : ℕ) → n ≡ 0 → length (head_of l n) ≡ 0
   unfolding head_of
   head-stop n h = rw (e, eq-eqb n 0 h)
@@ -41,6 +49,10 @@ module _ {l u : List ℕ} {b : ℕ} (e : l ≡ b ∷ u) where
   pub head_more : (n : ℕ) → (n ≡ 0 → ⊥) → (b ≡ 95 → ⊥) → length (head_of l n) ≡ length (head_of u (n - 1)) + 1
   unfolding head_of is_und
   head_more n z h = rw (e, ne_eqb n 0 z, ne_eqb b 95 h, add-one)
+
+pub digits-end : (t : List ℕ) (i : ℕ) → length t ≤ i → length (digits_of (drop i t)) ≡ 0
+unfolding digits_of
+digits-end t i h = rw (drop_of_length-le t {i = i} h)
 
 pub head-end : (t : List ℕ) (n i : ℕ) → length t ≤ i → length (head_of (drop i t) n) ≡ 0
 unfolding head_of

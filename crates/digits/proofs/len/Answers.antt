@@ -1,17 +1,17 @@
--- `digits::len` meets its contract: the chain counts the bytes that are no `_`.
+-- `digits::len` meets its contract. The invariant: the digits counted and those of what is left make up the digits.
 -- Assumes nothing.
-use Rattle.std.proofs.Common.{eqb, not, ap, ◌∙◌, rules, tests, length}
-use Rattle.std.proofs.lemmas.Iterator.{YieldsList-from_slice}
-use Rattle.std.proofs.lemmas.Iterator.Consumers.{count_from_yields_List, YieldsList-from_filter}
-use Rattle.digits.specs.Meaning.{is_und}
-use Rattle.digits.proofs.Ends.{filtered-is}
+use Rattle.std.proofs.Common.{arith}
+use Rattle.digits.proofs.Ends.{turn, digits-skip, digits_more, digits-end}
 use Rattle.digits.proofs.len.Goals as goal
+use Rattle.digits.proofs.len.Goals.{then-b-ne95, else-b-ne95}
+
+pub loop-b-preserved : goal.loop-b-preserved
+loop-b-preserved c =
+    let e = turn c.args.view.now c.loop-b.b-index (omega arith) in
+    elim c.if-b-ne95.branch [
+      | then-b-ne95 w ↦ (omega arith, omega (arith, digits_more e w.if-b-ne95.true))
+      | else-b-ne95 w ↦ (omega arith, omega (arith, digits-skip e w.if-b-ne95.false))
+    ]
 
 pub returns : goal.returns
-unfolding is_und
-returns c =
-    let t = c.args.view.now in
-    count_from_yields_List c.filter.result _ c.count.ensures.ran
-    (YieldsList-from_filter _ (λ b. not (eqb b 95)) (YieldsList-from_slice t cc)
-    c.filter.ensures.closure (λ x b q k. search (rules, tests)))
-    ∙ ap length (filtered-is t)
+returns c = omega (arith, digits-end c.args.view.now c.loop-b.b-index (omega arith))
