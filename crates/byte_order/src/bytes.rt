@@ -10,7 +10,7 @@ use exact::Number;
 use format::{Manner, UnsignedAnswer};
 
 // The low W bits of x.
-pub(crate) fn low_bits(x: Number, width: u32) -> u64
+fn low_bits(x: Number, width: u32) -> u64
     requires { is_width width ≡ true }
     ensures { result ≡ low_bits width (number_of x) }
 {
@@ -62,6 +62,7 @@ pub(crate) fn size(width: u32) -> usize
 }
 
 // x to the buffer, the lowest byte first. The answer is the number of bytes.
+#[tactic(auto, using(crate::proofs::Buffers::room_of))]
 pub(crate) fn to_le(x: Number, width: u32, frac: u32, out: &mut [u8]) -> UnsignedAnswer
     ensures { Stored (little_of width (number_of x)) width frac out.old out.new result }
 {
@@ -78,6 +79,7 @@ pub(crate) fn to_le(x: Number, width: u32, frac: u32, out: &mut [u8]) -> Unsigne
 }
 
 // The same with the highest byte first.
+#[tactic(auto, using(crate::proofs::Buffers::room_of))]
 pub(crate) fn to_be(x: Number, width: u32, frac: u32, out: &mut [u8]) -> UnsignedAnswer
     ensures { Stored (big_of width (number_of x)) width frac out.old out.new result }
 {
