@@ -10,7 +10,7 @@ pub(crate) const PLACES: usize = 87;
 // The text stands from `start` to `end`. The places are lent, so that the compiler keeps both ends in registers.
 #[derive(Drop)]
 pub(crate) struct Layout<'a> {
-    pub(crate) places: &'a mut [u8; PLACES],
+    places: &'a mut [u8; PLACES],
     pub(crate) start: usize,
     pub(crate) end: usize,
     ghost room: { length places.now ≡ 87 },
@@ -23,7 +23,6 @@ impl<'a> Layout<'a> {
 
     // No text yet.
     pub(crate) fn new(places: &'a mut [u8; PLACES]) -> Layout<'a>
-        requires { length places.old ≡ PLACES }
         ensures start { result.start ≡ POINT }
         ensures end { result.end ≡ POINT }
         ensures text { laid result ≡ [] }

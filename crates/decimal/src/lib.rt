@@ -1,7 +1,7 @@
 // The exact writer of document 01, module 6: a raw as the decimal text of its number.
 #![tactic(auto)]
 
-ghost use Rattle.std.specs.Prelude.{◌≡◌, ◌≤◌, ◌<◌, length};
+ghost use Rattle.std.specs.Prelude.{◌≡◌, ◌≤◌, ◌<◌};
 ghost use Rattle.decimal.specs.Meaning.{byte_of, text_of};
 ghost use Rattle.decimal.specs.Laid.{laid};
 ghost use Rattle.decimal.specs.Layout.{put_answer, put_over};
@@ -26,10 +26,10 @@ fn put(neg: bool, magnitude: u64, frac: u32, out: &mut [u8]) -> UnsignedAnswer
 {
     let mut places = [0; PLACES];
     let text = laid_out(&mut places, neg, magnitude, frac).into_text();
-    let count = text.len();
-    if out.len() < count {
+    if out.len() < text.len() {
         return UnsignedAnswer::Refused(TOO_SMALL);
     }
+    let count = text.len();
     out[..count].copy_from_slice(text);
     UnsignedAnswer::Done {
         raw: count as u64,
@@ -39,8 +39,7 @@ fn put(neg: bool, magnitude: u64, frac: u32, out: &mut [u8]) -> UnsignedAnswer
 
 // The text in its layout.
 fn laid_out<'a>(places: &'a mut [u8; PLACES], neg: bool, magnitude: u64, frac: u32) -> Layout<'a>
-    requires bits { frac ≤ 64 }
-    requires room { length places.old ≡ PLACES }
+    requires { frac ≤ 64 }
     ensures { laid result ≡ text_of neg magnitude frac }
 {
     let mut text = Layout::new(places);

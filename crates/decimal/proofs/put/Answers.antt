@@ -4,11 +4,11 @@ use Rattle.decimal.specs.Meaning.{text_of}
 use Rattle.decimal.proofs.Parts.{put-short, put-copied}
 use Rattle.decimal.proofs.put.Goals as goal
 
-pub returns-then-out-count : goal.returns-then-out-count
-returns-then-out-count c =
-    put-short (text_of c.args.neg c.args.magnitude c.args.frac) c.args.out.now (c.into_text-text.ensures ∙ c.laid_out.ensures) c.if-out-count.true
+pub returns-then-out-text : goal.returns-then-out-text
+returns-then-out-text c =
+    put-short (text_of c.args.neg c.args.magnitude c.args.frac) c.args.out.now (c.into_text-text.ensures ∙ c.laid_out.ensures) c.if-out-text.true
 
 pub returns : goal.returns
 returns c =
-    put-copied (text_of c.args.neg c.args.magnitude c.args.frac) c.args.out.now (c.into_text-text.ensures ∙ c.laid_out.ensures) c.if-out-count.false
+    put-copied (text_of c.args.neg c.args.magnitude c.args.frac) c.args.out.now (c.into_text-text.ensures ∙ c.laid_out.ensures) c.if-out-text.false
     c.copy_from_slice.ensures.after
