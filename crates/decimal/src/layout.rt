@@ -22,6 +22,7 @@ impl<'a> Layout<'a> {
     ghost use Rattle.decimal.specs.Laid.{laid, unless_zero};
 
     // No text yet.
+    #[tactic(auto, unfolding(crate::specs::Laid::laid))]
     pub(crate) fn new(places: &'a mut [u8; PLACES]) -> Layout<'a>
         ensures start { result.start ≡ POINT }
         ensures end { result.end ≡ POINT }
@@ -64,6 +65,7 @@ impl<'a> Layout<'a> {
         }
     }
 
+    #[tactic(auto, unfolding(crate::specs::Laid::laid))]
     pub(crate) fn into_text(self) -> &'a [u8]
         ensures { result.now ≡ laid self.entry }
     {
