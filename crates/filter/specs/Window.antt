@@ -2,7 +2,7 @@
 -- Assumes nothing.
 use Rattle.std.specs.Prelude.{◌≡◌, List, [], ◌∷◌, ◌++◌, ℕ, suc, ◌+◌, ◌-◌, ◌≤◌, ◌<◌, ℤ, length, take, drop, set}
 use Rattle.std.specs.List.{copy_within}
-use Rattle.std.proofs.Common.{sym, ◌∙◌, append_assoc, arith, take_at, drop_at, length-take-le}
+use Rattle.std.proofs.Common.{sym, append_assoc, arith, take_at, drop_at, length-take-le}
 use Rattle.std.proofs.lemmas.List.{set_split}
 use Rattle.filter.specs.Meaning.{most_taps, next}
 use Rattle.filter.specs.Run.{take_inner}

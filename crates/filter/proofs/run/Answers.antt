@@ -4,7 +4,6 @@ use mathlib.Core.Path.{◌≡◌, sym, ◌∙◌}
 use mathlib.Core.Bool.{false}
 use mathlib.Core.List.{List}
 use Prim.Native.Nat.{ℕ}
-use lib.ListN.{length}
 use lib.IntN.{ℤ}
 use Rattle.format.specs.declared.UnsignedAnswer.TheVariants.{Done as DoneU}
 use Rattle.filter.specs.Refuse.{Fit, block_fit, refuses, goes_on}

@@ -1,5 +1,5 @@
 -- `step` meets its promise: where the number of taps is refused, nothing is done; else the callees' equations, one in the other. Assumes nothing.
-use Rattle.std.proofs.Common.{arith, rules}
+use Rattle.std.proofs.Common.{rules}
 use mathlib.Core.Path.{◌≡◌, ap, ◌∙◌, sym}
 use mathlib.Core.Bool.{Bool}
 use mathlib.Core.List.{List}
@@ -11,8 +11,7 @@ use mir.Val.{to_z, of_z}
 use Rattle.laws.specs.Signed.{ok-back}
 use Rattle.format.specs.declared.SignedAnswer.TheVariants.{Done as DoneS}
 use Rattle.filter.specs.declared.sum.Held.{Held}
-use Rattle.filter.specs.Run.{next-length}
-use Rattle.filter.specs.Meaning.{most_taps, output_of, clip_of, stepped, step_of}
+use Rattle.filter.specs.Meaning.{output_of, clip_of, stepped, step_of}
 use Rattle.filter.specs.Refuse.{taps-few, refuses, goes_on}
 use Rattle.filter.proofs.step.Goals as goal
 

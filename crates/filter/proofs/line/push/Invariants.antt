@@ -2,7 +2,7 @@
 -- and the sample in hand is the next. The measure is what is left. Assumes nothing.
 use mathlib.Core.Path.{◌≡◌}
 use mathlib.Core.List.{◌∷◌, ◌++◌}
-use Prim.Native.Nat.{◌-◌, ◌≤◌}
+use Prim.Native.Nat.{◌≤◌}
 use lib.IntN.{pos}
 use lib.ListN.{length, take, drop, get_or}
 use Rattle.filter.specs.Meaning.{most_taps}

@@ -1,5 +1,5 @@
 -- `sum::hold` meets its contract: clamped, a number is held, and the flag is set exactly where that is another number. Assumes nothing.
-use Rattle.std.proofs.Common.{◌≡◌, refl, sym, ◌∙◌, ap, Bool, true, false, not, ℤ, pos, negsuc, eqb, arith, SFits, to_z, of_z, w16, w64}
+use Rattle.std.proofs.Common.{◌≡◌, refl, sym, ◌∙◌, Bool, true, false, not, ℤ, pos, negsuc, eqb, arith, SFits, to_z, of_z, w16, w64}
 use Rattle.std.specs.Int.{int_max, int_min}
 use Rattle.std.proofs.Math.Facts.{to_z-of_z, sfits_widen}
 use Rattle.std.proofs.lemmas.Int.{ints, clamps}

@@ -12,13 +12,13 @@ returns c =
     let room = c.self.told in
     let x = to_z-of_z {w = w16} c.ranges.x in
     elim c.if-self-eq0.branch [
-      then-self-eq0 w ↦
-      let copied = w.copy_within.ensures in
-      let zero = w.if-self-eq0.true in
-      let front : line_at most_taps w.copy_within.new.self ≡ c.args.self.now = rw copied.after (again old.places room) ∙ (rw zero at c.self.view_is) in
-      rw (w.self-inside-is, w.at-is, x)
-      (slide w.copy_within.new.self most_taps c.args.x (omega arith) (omega (arith, copied.len, room)) ∙ ap (λ l. next l c.args.x) front)
-    | else-self-eq0 w ↦
-      rw (w.self-inside-is, w.at-is, x, ← c.self.view_is)
-      (slide old.places old.at c.args.x (omega (arith, w.if-self-eq0.false)) (omega (arith, room, c.self.invariant)))
+      | then-self-eq0 w ↦
+          let copied = w.copy_within.ensures in
+          let zero = w.if-self-eq0.true in
+          let front : line_at most_taps w.copy_within.new.self ≡ c.args.self.now = rw copied.after (again old.places room) ∙ (rw zero at c.self.view_is) in
+          rw (w.self-inside-is, w.at-is, x)
+          (slide w.copy_within.new.self most_taps c.args.x (omega arith) (omega (arith, copied.len, room)) ∙ ap (λ l. next l c.args.x) front)
+      | else-self-eq0 w ↦
+          rw (w.self-inside-is, w.at-is, x, ← c.self.view_is)
+          (slide old.places old.at c.args.x (omega (arith, w.if-self-eq0.false)) (omega (arith, room, c.self.invariant)))
     ]
