@@ -6,8 +6,8 @@ use super::TAPS;
 use std::marker::Model;
 use std::mem;
 
-// The new sample in front, each other one place on; the oldest goes. One pass, with the sample that is on its way in hand (`copy_within` took
-// 1.7 of its time).
+// The new sample in front, each other one place on; the oldest goes.
+// One pass, with the sample that is on its way in hand: by `copy_within` a step took 1.7 of its time.
 pub(crate) fn push(line: &mut [i16; TAPS], x: i16)
     ensures { line.new ≡ next line.old x }
 {

@@ -5,7 +5,7 @@ ghost use Rattle.filter.specs.Sum.{held_of};
 
 use super::taps::Taps;
 
-// An output, and whether holding changed it.
+// An output, and whether holding changed it: no Option, since a clipped output has its value too.
 #[derive(Clone, Copy)]
 pub(crate) struct Held {
     pub value: i16,
@@ -19,7 +19,8 @@ fn product(tap: i16, sample: i16) -> i64
     i64::from(i32::from(tap) * i32::from(sample))
 }
 
-// The exact sum of the products. Of a `zip` the compiler takes one product at a time, or four by a step more (tried: 6 percent slower).
+// The exact sum of the products.
+// By the tap's place: a `zip` of taps and line was 5 percent slower, even where the line was cut to the taps' length.
 fn dot(taps: &[i16], line: &[i16]) -> i64
     requires few_taps { length taps.now ≤ most_taps }
     requires enough_samples { length taps.now ≤ length line.now }

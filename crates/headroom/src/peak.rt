@@ -6,7 +6,6 @@ ghost use Rattle.headroom.specs.Head.{number_of};
 
 use filter::taps::Taps;
 use filter::{TAPS, sum};
-use std::cmp::Ordering;
 
 // The two ways to clip.
 #[derive(Clone, Copy)]
@@ -16,14 +15,17 @@ pub(crate) enum Way {
 }
 
 // One number for a tap above 0, another for one below, 0 for a zero tap.
+// By two tests: with a `match` on `cmp` a check of 64 taps took 1.6 of its time.
 fn by_sign(tap: i16, above: i16, below: i16) -> i16
     ensures { result ≡ by_sign tap above below }
 {
-    match tap.cmp(&0) {
-        Ordering::Greater => above,
-        Ordering::Less => below,
-        Ordering::Equal => 0,
+    if 0 < tap {
+        return above;
     }
+    if tap < 0 {
+        return below;
+    }
+    0
 }
 
 // The sample that drives a tap's term furthest that way.
@@ -58,7 +60,8 @@ fn passes(way: Way, y: i64) -> bool
     }
 }
 
-// Whether those samples clip that way, by the filter's own sum of them, rounded as the filter rounds; then they are the witness.
+// Whether those samples clip that way, by the filter's own sum of them, rounded as the filter rounds;
+// then they are the witness.
 fn clips(way: Way, taps: &Taps<'_>, witness: &mut [i16]) -> bool
     requires { length witness.old ≡ length taps.now }
     ensures way { result ≡ clips_way way taps.now }
