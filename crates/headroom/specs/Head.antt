@@ -16,10 +16,10 @@ head-fit n places h =
     (a.0, taps-few n a.1)
 
 -- 01's number of a verdict
-abbrev pub number_of : Option Way → ℕ
-number_of None = 0
-number_of (Some High) = 1
-number_of (Some Low) = 2
+abbrev pub verdict_number : Option Way → ℕ
+verdict_number None = 0
+verdict_number (Some High) = 1
+verdict_number (Some Low) = 2
 
 -- the test of the level is the test of the meaning
 pub test-way : (way : Way) (taps line : List ℤ) (y : ℤ) (t : Bool) → y ≡ level_of taps line → take (length taps) line ≡ driving way taps → passes way y ≡ t

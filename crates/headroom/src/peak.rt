@@ -2,7 +2,7 @@
 ghost use Rattle.std.specs.Prelude.{◌≡◌, cond, map, ◌≤◌, length, take};
 ghost use Rattle.filter.specs.Meaning.{most_taps};
 ghost use Rattle.headroom.specs.Meaning.{by_sign, driven_of, driving, passes, clips_way, verdict_of, witness_of};
-ghost use Rattle.headroom.specs.Head.{number_of};
+ghost use Rattle.headroom.specs.Head.{verdict_number};
 
 use filter::taps::Taps;
 use filter::{TAPS, sum};
@@ -80,7 +80,7 @@ fn clips(way: Way, taps: &Taps<'_>, witness: &mut [i16]) -> bool
 // No taps clip low alone (specs/Theorems.antt, `never-2`); the test stands as 01 defines the verdict.
 pub(crate) fn verdict(taps: &Taps<'_>, witness: &mut [i16]) -> Option<Way>
     requires { length witness.old ≡ length taps.now }
-    ensures verdict { number_of result ≡ verdict_of taps.now }
+    ensures verdict { verdict_number result ≡ verdict_of taps.now }
     ensures witness { witness.new ≡ witness_of taps.now witness.old }
 {
     if clips(Way::High, taps, witness) {
@@ -94,7 +94,7 @@ pub(crate) fn verdict(taps: &Taps<'_>, witness: &mut [i16]) -> Option<Way>
 
 // 01's number of a verdict.
 pub(crate) fn number(verdict: Option<Way>) -> u64
-    ensures { result ≡ number_of verdict }
+    ensures { result ≡ verdict_number verdict }
 {
     match verdict {
         None => 0,
