@@ -1,8 +1,10 @@
 -- The digits of a text as the code walks them: the bytes from the first digit to the last, without `_` and the point. Assumes nothing.
-use Rattle.std.specs.Prelude.{◌≡◌, refl, Bool, true, false, cond, not, ◌||◌, ◌==◌, List, [], ◌∷◌, ℕ, ◌+◌, ◌*◌, ◌≤◌, ◌<◌, eqb, length, take, drop, get_or}
+use Rattle.std.specs.Prelude.{◌≡◌, refl, Bool, true, false, cond, not, ◌||◌, ◌==◌, List, [], ◌∷◌, ℕ, ◌+◌, ◌*◌, ◌≤◌, ◌<◌, eqb, length, take, drop, get_or, Option, Some, None}
 use Rattle.std.specs.List.{list_any}
-use Rattle.std.proofs.Common.{sym, ap, ◌∙◌, add-one, arith, take-suc, take_all, length-drop, get_or-drop, drop_of_length-le, drop-drop}
-use Rattle.grammar.specs.Meaning.{Written, digit_of, nat_from}
+use Rattle.std.specs.Option.{unwrap_or}
+use Rattle.std.specs.Iterator.{YieldsFirst}
+use Rattle.std.proofs.Common.{sym, ap, ◌∙◌, add-one, arith, take-suc, length-drop, get_or-drop, drop-drop}
+use Rattle.grammar.specs.Meaning.{Written, digit_of}
 use Rattle.grammar.specs.Naturals.{nat_of, nat_from-snoc}
 use Rattle.grammar.specs.Run.{body_of}
 use Rattle.fold.specs.declared.Folded.{Folded}
@@ -62,11 +64,11 @@ module _ (ds : List ℕ) (k : ℕ) {d : ℕ} {es : List ℕ} (next : drop k ds �
   number-next radix r e f =
       f ∙ ap (λ (z : Folded). fold_of (folded_value z * radix + d)) e ∙ fold_step (nat_of radix (take k ds)) radix d r ∙ ap fold_of (sym (nat-next radix))
 
--- there are no more: then those taken are all
-pub none-next : (ds : List ℕ) (k count : ℕ) → drop k ds ≡ [] → k ≤ count → (take k ds ≡ take count ds) × (drop k ds ≡ drop count ds)
-none-next ds k count e h =
-    let all : length ds ≤ k = omega (arith, ap length e, length-drop k ds) in
-    (take_all k ds all ∙ sym (take_all count ds (omega arith)), drop_of_length-le ds all ∙ sym (drop_of_length-le ds (omega arith)))
+-- the first digit as the code takes it, 0 where there is none
+pub first-or : (ds es : List ℕ) {d : ℕ} (r : Option ℕ) → YieldsFirst (λ (l : List ℕ). l) ds r es → d ≡ unwrap_or r 0
+    → (d ≡ get_or ds 0 0) × (es ≡ drop 1 ds)
+first-or ds es None e f = (f ∙ ap (λ (l : List ℕ). get_or l 0 0) (sym e.0), e.1 ∙ sym (ap (drop 1) e.0))
+first-or ds es (Some x) e f = (f ∙ sym (ap (λ (l : List ℕ). get_or l 0 0) e), sym (ap (drop 1) e))
 
 -- ---- what was read, with these bytes as its digits. The sign plays no part in the raw
 abbrev pub as_written : List ℕ → ℕ → ℕ → Bool → ℕ → Written

@@ -7,7 +7,7 @@ pub returns : goal.returns
 returns c =
     let a = c.args in
     let e = c.plus.ensures in elim c.match-how.branch [
-      in-Less w ↦ round-less a.self w.in-Less.is w.carry-is e
+      | in-Less w ↦ round-less a.self w.in-Less.is w.carry-is e
       | in-Equal w ↦ round-equal a.self w.in-Equal.is w.carry-is e
       | in-Greater w ↦ round-greater a.self w.in-Greater.is w.carry-is e
     ]

@@ -1,6 +1,6 @@
 -- `Folded::times` meets its contract: two words hold a product and a sum of words (`words-fit`), and past 2^64 a number stays there (`times-done`).
 use Rattle.std.proofs.Common.{refl, arith}
-use Rattle.fold.specs.Fold.{words-fit, times-done}
+use Rattle.fold.specs.Fold.{times-done}
 use Rattle.fold.proofs.Folded.times.Goals as goal
 
 pub returns-then-self : goal.returns-then-self

@@ -1,5 +1,5 @@
 -- `Digits::next` gives the first digit that is left. The invariant: the bytes passed have no digit. Assumes nothing.
-use Rattle.std.proofs.Common.{sym, ap, ap₂, ◌∙◌, ◌∷◌, length, ℕ, List, refl, rules, arith, [], ◌≡◌}
+use Rattle.std.proofs.Common.{sym, ap, ◌∙◌, ◌∷◌, length, ℕ, rules, [], ◌≡◌}
 use Rattle.std.proofs.lemmas.List.{nil_from_length}
 use Rattle.grammar.specs.Meaning.{digit_of}
 use Rattle.grammar.specs.Run.{body_of}
