@@ -18,8 +18,8 @@ use Rattle.std.specs.Ordering.{MatchOrdering, nat_cmp, ordering_then}
 use Rattle.std.specs.Cmp.{ranks, nat_cmp_is}
 use Rattle.fold.specs.Round.{round_by, nearest-middle}
 use Rattle.fold.specs.Fold.{fold_of, folded_value, fold_step, fold-round}
-use Rattle.fold.specs.Body.{any_of}
-use Rattle.bits.specs.Numbers.{nat-around, any_none, any_some, drop-digits}
+use Rattle.fold.specs.Body.{any_of, drop-digits}
+use Rattle.bits.specs.Numbers.{nat-around, any_none, any_some}
 
 -- digits of `width` bits each as a number
 abbrev pub bits_number : List ℕ → ℕ → ℕ

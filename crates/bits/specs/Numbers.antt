@@ -1,9 +1,8 @@
 -- The digits as one number, taken apart: those in front, those behind, and whether they are all 0. Assumes nothing.
 use Rattle.std.specs.Prelude.{◌≡◌, refl, Bool, true, false, not, ◌||◌, ℕ, suc, ◌+◌, ◌-◌, ◌*◌, ◌^◌, ◌<◌, eqb, length, take, drop, get_or}
-use Rattle.std.proofs.Common.{sym, ap, ◌∙◌, subst, true≢false, mul-pos, arith, take-append-drop, length-drop, drop-cons, eqb-true}
+use Rattle.std.proofs.Common.{sym, ap, ◌∙◌, true≢false, mul-pos, arith, take-append-drop, length-drop, drop-cons, eqb-true}
 use Rattle.std.proofs.lemmas.Bool.{false≢true, eqb-false}
-use mathlib.Core.List.Memᴰ
-use mathlib.Core.List.{List, [], ◌∷◌, Memᴰ}
+use mathlib.Core.List.{List, [], ◌∷◌}
 use Rattle.std.proofs.Math.Nat.{one-le-pow}
 use Rattle.grammar.specs.Meaning.{nat_from}
 use Rattle.grammar.specs.Naturals.{nat_of, nat_from-append, nat_from-shift}
@@ -44,7 +43,3 @@ any_some radix (d ∷ ds) r e = go (eqb d 0) refl (λ a. any_some radix ds r a) 
     go false f more a =
         let some : 0 < d * radix ^ length ds = mul-pos (omega (arith, eqb-false d 0 f)) (one-le-pow (length ds) radix r) in
         omega (arith, nat_from-shift radix ds (0 * radix + d))
-
--- ---- a part has digits of the whole
-pub drop-digits : {ds : List ℕ} {radix : ℕ} (k : ℕ) → ((d : ℕ) → Memᴰ d ds → d < radix) → (d : ℕ) → Memᴰ d (drop k ds) → d < radix
-drop-digits {ds} {radix} k below d m = below d (subst (Memᴰ d) (take-append-drop k ds) (Memᴰ.append_right (take k ds) m))

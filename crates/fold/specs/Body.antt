@@ -1,9 +1,11 @@
 -- The digits of a text as the code walks them: the bytes from the first digit to the last, without `_` and the point. Assumes nothing.
 use Rattle.std.specs.Prelude.{◌≡◌, refl, Bool, true, false, cond, not, ◌||◌, ◌==◌, List, [], ◌∷◌, ℕ, ◌+◌, ◌*◌, ◌≤◌, ◌<◌, eqb, length, take, drop, get_or, Option, Some, None}
+use mathlib.Core.List.Memᴰ
+use mathlib.Core.List.{Memᴰ}
 use Rattle.std.specs.List.{list_any}
 use Rattle.std.specs.Option.{unwrap_or}
 use Rattle.std.specs.Iterator.{YieldsFirst}
-use Rattle.std.proofs.Common.{sym, ap, ◌∙◌, add-one, arith, take-suc, length-drop, get_or-drop, drop-drop}
+use Rattle.std.proofs.Common.{sym, ap, subst, take-append-drop, ◌∙◌, add-one, arith, take-suc, length-drop, get_or-drop, drop-drop}
 use Rattle.grammar.specs.Meaning.{Written, digit_of}
 use Rattle.grammar.specs.Naturals.{nat_of, nat_from-snoc}
 use Rattle.grammar.specs.Run.{body_of}
@@ -69,6 +71,10 @@ pub first-or : (ds es : List ℕ) {d : ℕ} (r : Option ℕ) → YieldsFirst (λ
     → (d ≡ get_or ds 0 0) × (es ≡ drop 1 ds)
 first-or ds es None e f = (f ∙ ap (λ (l : List ℕ). get_or l 0 0) (sym e.0), e.1 ∙ sym (ap (drop 1) e.0))
 first-or ds es (Some x) e f = (f ∙ sym (ap (λ (l : List ℕ). get_or l 0 0) e), sym (ap (drop 1) e))
+
+-- a part has digits of the whole
+pub drop-digits : {ds : List ℕ} {radix : ℕ} (k : ℕ) → ((d : ℕ) → Memᴰ d ds → d < radix) → (d : ℕ) → Memᴰ d (drop k ds) → d < radix
+drop-digits {ds} {radix} k below d m = below d (subst (Memᴰ d) (take-append-drop k ds) (Memᴰ.append_right (take k ds) m))
 
 -- ---- what was read, with these bytes as its digits. The sign plays no part in the raw
 abbrev pub as_written : List ℕ → ℕ → ℕ → Bool → ℕ → Written

@@ -1,6 +1,6 @@
 -- A number of any size folded into one word and a bit, and that this is enough: sums, products and rounding of what is folded give what
 -- the number gives (and a format makes the same of it: `settle-folded` of `text`). Assumes nothing.
-use Rattle.std.specs.Prelude.{◌≡◌, refl, Bool, true, false, cond, ◌||◌, ℕ, suc, ◌+◌, ◌-◌, ◌*◌, ◌/◌, ◌%◌, ◌^◌, ◌≤◌, ◌<◌, leb, ltb}
+use Rattle.std.specs.Prelude.{◌≡◌, Bool, true, false, cond, ◌||◌, ℕ, suc, ◌+◌, ◌-◌, ◌*◌, ◌/◌, ◌%◌, ◌^◌, ◌≤◌, ◌<◌, leb, ltb}
 use Rattle.std.proofs.Common.{sym, ◌∙◌, div-add-mod', lt_of_le_of_lt, le_of_lt, mul-le-mul_left, pow-suc, mul-pos, mul-le-mul, mod-eq_of_lt, pow_pos, pow_mono, le-leb, lt-ltb, le-ltb}
 use Rattle.std.proofs.Math.Path.{ap}
 use Rattle.std.proofs.Math.Nat.{mul-add-mod_self_right}
@@ -44,14 +44,6 @@ words-fit h l a m d f g k e =
     let most : a * m ≤ a * 2 ^ 64 = mul-le-mul_left a (le_of_lt g) in
     let sum : h * 2 ^ 64 + l + (0 * 2 ^ 64 + d) ≤ a * 2 ^ 64 + d = omega arith in
     lt_of_le_of_lt sum (digits_lt {m = 2 ^ 64} {r = d} {c = 2 ^ 64} f k)
-
--- what is folded, folded again: it is the least number that is folded so
-pub fold_self : (x : Folded) → x.low < 2 ^ 64 → x ≡ fold_of (folded_value x)
-fold_self x l = fold_words (folded_value x) (bit x.over) refl l (go x.over)
-  where
-    go : (b : Bool) → b ≡ ltb 0 (bit b)
-    go true = refl
-    go false = refl
 
 -- a product and a sum, h and l the words of x.low * m + d
 pub times-done : (x : Folded) (m d : ℕ) {r : Folded} (h : ℕ) → 0 < m → h * 2 ^ 64 + r.low ≡ x.low * m + d → r.low < 2 ^ 64 → r.over ≡ (x.over || ltb 0 h)
@@ -133,6 +125,9 @@ fold_step m k d h = go (dec_le (2 ^ 64) m)
 
 pub fold-again : (m : ℕ) → fold_of (folded_value (fold_of m)) ≡ fold_of m
 fold-again m = ap fold_of (omega arith) ∙ fold_step m 1 0 (omega arith) ∙ ap fold_of (omega arith)
+
+pub folded_again : {x : Folded} (m : ℕ) → x ≡ fold_of m → x ≡ fold_of (folded_value x)
+folded_again m e = e ∙ sym (fold-again m) ∙ ap (λ (y : Folded). fold_of (folded_value y)) (sym e)
 
 pub fold-add : (m d : ℕ) → fold_of (folded_value (fold_of m) + d) ≡ fold_of (m + d)
 fold-add m d = ap fold_of (omega arith) ∙ fold_step m 1 d (omega arith) ∙ ap fold_of (omega arith)
