@@ -95,12 +95,6 @@ log-power {p} r (inr (inl e)) l h = let k = exact 1 r (omega arith) (omega arith
 log-power {p} r (inr (inr (inl e))) l h = let k = exact 3 r (omega arith) (omega arith) in (e ∙ ap (λ (i : ℕ). 2 ^ i) k, omega arith)
 log-power {p} r (inr (inr (inr e))) l h = let k = exact 4 r (omega arith) (omega arith) in (e ∙ ap (λ (i : ℕ). 2 ^ i) k, omega arith)
 
-pub power-some : {p : ℕ} → Power p → 0 < p
-power-some (inl e) = omega arith
-power-some (inr (inl e)) = omega arith
-power-some (inr (inr (inl e))) = omega arith
-power-some (inr (inr (inr e))) = omega arith
-
 module _ {t : List ℕ} {n after radix base exp frac : ℕ} (legal : Legal t n after radix base exp frac) where
   pub radix-power : Power radix
   radix-power = inr legal.radix-is

@@ -143,9 +143,6 @@ cut-away ds n width s digits some far =
     nearest-none (bits_number ds width) (2 ^ s) (omega (arith, pow-add 2 (width * n) 1))
 
 -- ---- where the cut is: `low` digits behind the one that is cut, and c bits of that one
-pub cut-bits : (s width : ℕ) → 0 < width → (s - 1) % width + 1 ≤ width
-cut-bits s width h = omega (arith, mod-lt (s - 1) h)
-
 cut_at : (n s width : ℕ) → 0 < s → (s - 1) / width < n → width * (n - (n - (s - 1) / width - 1) - 1) + ((s - 1) % width + 1) ≡ s
 cut_at n s width h k =
     let low = (s - 1) / width in

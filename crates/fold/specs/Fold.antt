@@ -1,12 +1,11 @@
 -- A number of any size folded into one word and a bit, and that this is enough: sums, products and rounding of what is folded give what
 -- the number gives (and a format makes the same of it: `settle-folded` of `text`). Assumes nothing.
-use Rattle.std.specs.Prelude.{◌≡◌, Bool, true, false, cond, ◌||◌, ℕ, suc, ◌+◌, ◌-◌, ◌*◌, ◌/◌, ◌%◌, ◌^◌, ◌≤◌, ◌<◌, leb, ltb}
-use Rattle.std.proofs.Common.{sym, ◌∙◌, div-add-mod', lt_of_le_of_lt, le_of_lt, mul-le-mul_left, pow-suc, mul-pos, mul-le-mul, mod-eq_of_lt, pow_pos, pow_mono, le-leb, lt-ltb, le-ltb}
+use Rattle.std.specs.Prelude.{◌≡◌, Bool, true, false, cond, ◌||◌, ℕ, ◌+◌, ◌-◌, ◌*◌, ◌/◌, ◌%◌, ◌^◌, ◌≤◌, ◌<◌, leb, ltb}
+use Rattle.std.proofs.Common.{sym, ◌∙◌, div-add-mod', mul-pos, mul-le-mul, mod-eq_of_lt, pow_pos, le-leb, lt-ltb, le-ltb}
 use Rattle.std.proofs.Math.Path.{ap}
 use Rattle.std.proofs.Math.Nat.{mul-add-mod_self_right}
 use Rattle.std.proofs.Math.Decide.{dec_le}
 use native.Mathlib.Omega.{arith}
-use Rattle.std.proofs.Math.Arith.{digits_lt}
 use Rattle.std.proofs.lemmas.Bool.{lt-leb}
 use Rattle.laws.specs.Powers.{power-sub}
 use Rattle.fold.specs.declared.Folded.{Folded}
@@ -38,13 +37,6 @@ fold_words {x} m h e l f =
     go (yes k) = lt-ltb 0 h k ∙ sym (le-leb (2 ^ 64) m (omega arith))
     go (no k) = le-ltb 0 h (omega arith) ∙ sym (lt-leb (2 ^ 64) m (omega arith))
 
--- two words hold a product and a sum of words
-pub words-fit : (h l a m d : ℕ) → a < 2 ^ 64 → m < 2 ^ 64 → d < 2 ^ 64 → h * 2 ^ 64 + l ≡ a * m → h * 2 ^ 64 + l + (0 * 2 ^ 64 + d) < 2 ^ 128
-words-fit h l a m d f g k e =
-    let most : a * m ≤ a * 2 ^ 64 = mul-le-mul_left a (le_of_lt g) in
-    let sum : h * 2 ^ 64 + l + (0 * 2 ^ 64 + d) ≤ a * 2 ^ 64 + d = omega arith in
-    lt_of_le_of_lt sum (digits_lt {m = 2 ^ 64} {r = d} {c = 2 ^ 64} f k)
-
 -- a product and a sum, h and l the words of x.low * m + d
 pub times-done : (x : Folded) (m d : ℕ) {r : Folded} (h : ℕ) → 0 < m → h * 2 ^ 64 + r.low ≡ x.low * m + d → r.low < 2 ^ 64 → r.over ≡ (x.over || ltb 0 h)
     → r ≡ fold_of (folded_value x * m + d)
@@ -69,10 +61,6 @@ module _ (x : Folded) {how : Ordering} {carry : ℕ} {r : Folded} where
   pub round-greater : how ≡ Greater → carry ≡ 1 → r ≡ fold_of (folded_value x + carry) → r ≡ fold_of (round_by how (folded_value x))
   unfolding round_by
   round-greater e f g = rw e (g ∙ ap (λ (b : ℕ). fold_of (folded_value x + b)) f)
-
--- below 64 places a power of two is one word
-pub bit-fits : (k : ℕ) → k < 64 → (k < 64) × (1 * 2 ^ k < 2 ^ 64)
-bit-fits k h = (h, omega (arith, pow_mono {i = suc k} {j = 64} h, pow-suc 2 k, pow_pos k))
 
 -- past 64 places only whether it is 0 is left
 far-words : (v k : ℕ) → 64 ≤ k → v * 2 ^ k ≡ v * 2 ^ (k - 64) * 2 ^ 64 + 0

@@ -1,4 +1,4 @@
--- `Folded::times` meets its contract: two words hold a product and a sum of words (`words-fit`), and past 2^64 a number stays there (`times-done`).
+-- `Folded::times` meets its contract: past 2^64 a number stays there (`times-done`). Assumes nothing.
 use Rattle.std.proofs.Common.{refl, arith}
 use Rattle.fold.specs.Fold.{times-done}
 use Rattle.fold.proofs.Folded.times.Goals as goal

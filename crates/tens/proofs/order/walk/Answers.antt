@@ -1,16 +1,10 @@
 -- `order::walk` meets its contract. The invariant: the digits that are left compare with the rest as all do with the start. Assumes nothing.
-use Rattle.std.proofs.Common.{rules, ◌^◌, ◌∙◌, ap, arith, ◌<◌, Equal, Less}
+use Rattle.std.proofs.Common.{rules, ◌∙◌, arith, ◌<◌, Equal, Less}
 use Rattle.std.specs.Cmp.{nat_cmp_is}
-use Rattle.fold.specs.declared.body.Digits.{Digits}
-use Rattle.fold.specs.Body.{digits_left}
-use Rattle.tens.specs.Order.{order_ten}
 use Rattle.wide.specs.Meaning.{value_of}
 use Rattle.tens.specs.Walk.{walk-stop, walk-next, walk-end}
 use Rattle.tens.proofs.order.walk.Goals.{else-rest-eq0-via-then-rest-eq0+else-rest-eq0-2, else-rest-eq0-via-else-rest-eq0}
 use Rattle.tens.proofs.order.walk.Goals as goal
-
-pub loop-digit-init : goal.loop-digit-init
-loop-digit-init c = (c.requires, ap (λ (d : Digits). order_ten (digits_left d) (value_of c.args.start) (2 ^ 64)) c.into_iter-digit-iterator.ensures.into_iter_gives)
 
 pub returns-then-digit-rest : goal.returns-then-digit-rest
 returns-then-digit-rest c =
