@@ -1,5 +1,5 @@
 pub mod Cases
 pub mod Meaning
 pub mod Promise
-pub mod Steps
+pub mod Step
 pub mod Theorems

@@ -2,7 +2,7 @@
 #![tactic(auto)]
 
 ghost use Rattle.whole.specs.Promise.{Floor, Ceil, Round, Even, Int, Frac};
-ghost use Rattle.whole.specs.Steps.{Steps};
+ghost use Rattle.whole.specs.Step.{StepFitted};
 
 use exact::Number;
 use format::{Answered, Exact, Format, Manner, Raw};
@@ -58,7 +58,7 @@ fn stepped<R: Raw, F: FnOnce(Number, Format) -> Exact>(
     step: F,
 ) -> Answered<R>
     requires { F.IsAlwaysCallable step }
-    ensures { Steps R.kind (F.post step) a width frac manner result }
+    ensures { StepFitted R.kind (F.post step) a width frac manner result }
 {
     let format = Format::new(width, frac)?;
     format::fit(step(exact::of(a), format), format, manner)
