@@ -2,7 +2,7 @@
 #![tactic(auto)]
 
 ghost use Rattle.std.specs.Prelude.{◌≡◌, ◌+◌, ◌*◌, ◌^◌, ◌≤◌, ◌<◌, pos, nat_abs, ◌+ℤ◌, ◌-ℤ◌, ◌*ℤ◌};
-ghost use Rattle.laws.specs.Floor.{floor as floorIn};
+ghost use Rattle.laws.specs.Floor.{floor as floor_of};
 ghost use Rattle.format.specs.Meaning.{with_sign};
 ghost use Rattle.wide.specs.Meaning.{value_of};
 ghost use Rattle.exact.specs.Meaning.{number_of, exact_of};
@@ -49,7 +49,7 @@ pub fn div_euclid(x: Number, y: Number, format: Format) -> Exact
 // Below zero, down is away from zero.
 fn floor(x: Number, m: u64) -> Number
     requires { 0 < m }
-    ensures { number_of result ≡ floorIn (number_of x) m }
+    ensures { number_of result ≡ floor_of (number_of x) m }
 {
     let size = if x.neg {
         x.size.div_ceil(m)
@@ -61,12 +61,13 @@ fn floor(x: Number, m: u64) -> Number
 
 // The floor of the product, of two words, and a word. The product of two words leaves room for a word.
 pub fn mul_add(x: Number, y: Number, z: Number, frac: u32) -> Exact
-    ensures { exact_of result ≡ floorIn (number_of x *ℤ number_of y) (2 ^ frac) +ℤ number_of z }
+    ensures { exact_of result ≡ floor_of (number_of x *ℤ number_of y) (2 ^ frac) +ℤ number_of z }
 {
     add(exact::product(x, y, frac), z)
 }
 
-// x + y: equal signs add, else the smaller is taken from the larger, whose sign stays.
+// x + y: equal signs add, else the smaller is taken from the larger, whose sign stays. Apart from `exact::sum`, which is
+// of two words alone: only this sum asks for room.
 fn add(x: Exact, y: Number) -> Exact
     requires { x.high * 2 ^ 64 + x.low + 2 ^ 64 ≤ 2 ^ 128 }
     ensures { exact_of result ≡ exact_of x +ℤ number_of y }
@@ -108,7 +109,7 @@ pub fn dist(x: Number, y: Number) -> Exact
 
 // Half of x + y, rounded toward minus infinity.
 pub fn mean(x: Number, y: Number) -> Exact
-    ensures { exact_of result ≡ floorIn (number_of x +ℤ number_of y) 2 }
+    ensures { exact_of result ≡ floor_of (number_of x +ℤ number_of y) 2 }
 {
     let s = exact::sum(x, y);
     exact::floor(s.neg, s.high, s.low, 1)

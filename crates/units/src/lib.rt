@@ -3,7 +3,7 @@
 
 ghost use Rattle.std.specs.Prelude.{◌≡◌, true, ◌*◌, ◌/◌, ◌%◌, ◌^◌, ◌<◌, pos, ◌-ℤ◌, ◌*ℤ◌};
 ghost use Rattle.std.specs.Ordering.{MatchOrdering};
-ghost use Rattle.laws.specs.Floor.{floor as floorIn};
+ghost use Rattle.laws.specs.Floor.{floor as floor_of};
 ghost use Rattle.laws.specs.Nearest.{nearest_even};
 ghost use Rattle.format.specs.Meaning.{with_sign};
 ghost use Rattle.exact.specs.Meaning.{number_of, exact_of};
@@ -73,7 +73,8 @@ pub fn in_steps(x: Number, format: Format) -> Exact
     exact::shifted_left(x, format.frac)
 }
 
-// x less the greatest multiple of m that is not above it: what is left of the magnitude, and below zero what that lacks of m.
+// x less the greatest multiple of m that is not above it: what is left of the magnitude, and below zero what that lacks
+// of m.
 pub fn modulo(x: Number, m: u64) -> u64
     requires { 0 < m }
     ensures { pos result ≡ number_of x -ℤ floor_to (number_of x) m }
@@ -84,7 +85,7 @@ pub fn modulo(x: Number, m: u64) -> u64
 
 // How many whole 2^frac are at or below x.
 fn below(x: Number, frac: u32) -> Number
-    ensures { number_of result ≡ floorIn (number_of x) (2 ^ frac) }
+    ensures { number_of result ≡ floor_of (number_of x) (2 ^ frac) }
 {
     let size = if x.neg {
         above(x.size, frac)
@@ -96,7 +97,7 @@ fn below(x: Number, frac: u32) -> Number
 
 // Below zero, down is away from zero: one more than what the magnitude less one holds of 2^frac.
 fn above(size: u64, frac: u32) -> u64
-    ensures { with_sign true result ≡ floorIn (with_sign true size) (2 ^ frac) }
+    ensures { with_sign true result ≡ floor_of (with_sign true size) (2 ^ frac) }
 {
     if size == 0 {
         0
@@ -129,7 +130,7 @@ fn nearest_even(size: u64, format: Format) -> u64
 // Half of 2^64.
 const HALF: u64 = 0x8000_0000_0000_0000;
 
-// What is left of size, beside half of 2^frac: both as parts of 2^64, so that the rest stands in the high bits of a word.
+// What is left of size, beside half of 2^frac: both as parts of 2^64, so that the rest is the high bits of a word.
 fn beside_half(size: u64, format: Format) -> Ordering
     ensures { MatchOrdering result (size % 2 ^ format.frac * 2 < 2 ^ format.frac)
         (size % 2 ^ format.frac * 2 ≡ 2 ^ format.frac) (2 ^ format.frac < size % 2 ^ format.frac * 2) }
