@@ -116,6 +116,7 @@ fn nearest_away(size: u64, format: Format) -> u64
     }
 }
 
+// Apart from `nearest_away` by the tie alone: as a closure, it would take a bound on q and a clause of its own.
 fn nearest_even(size: u64, format: Format) -> u64
     ensures { result ≡ nearest_even size (2 ^ format.frac) }
 {

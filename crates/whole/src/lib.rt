@@ -1,4 +1,4 @@
-// Whole numbers of a format: a raw rounded to units of 2^F steps, then the manner of `format`; and the two parts of a raw.
+// Whole numbers of a format: a raw rounded to units of 2^F steps, and its two parts; then the manner of `format`.
 #![tactic(auto)]
 
 ghost use Rattle.whole.specs.Promise.{Floor, Ceil, Round, Even, Int, Frac};
