@@ -5,7 +5,7 @@ pub fn power(k: u32) -> u64
     requires { k ≤ 63 }
     ensures { result ≡ 2 ^ k }
 {
-    wide::shl_word(1, k)
+    1 << k
 }
 
 // The k low bits set.

@@ -6,7 +6,7 @@ use Rattle.from_float.specs.Parts.{met, from-done, from-refused}
 use Rattle.from_float.proofs.signed.from.Goals as goal
 
 pub magnitude-m-requires : goal.magnitude-m-requires
-magnitude-m-requires c = (c.requires, (met _ _ _ _ _ c.of_call-fault.ensures c.if-fault-eq0.true).frac)
+magnitude-m-requires c = (met _ _ _ _ _ c.of_call-fault.ensures c.if-fault-eq0.true).frac
 
 pub fit-requires : goal.fit-requires
 fit-requires c = (met _ _ _ _ _ c.of_call-fault.ensures c.if-fault-eq0.true).width
