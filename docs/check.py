@@ -21,6 +21,8 @@ PAGES = {page.stem: page.read_text() for page in sorted((ROOT / "docs/promises")
 FUNCTION = re.compile(r'^pub (?:extern "C" )?fn (\w+)(.*?)(?:^| )\{$', re.M | re.S)
 CLAUSE = re.compile(r"\b(?:requires|ensures)\b[^{]*\{")
 INNER = re.compile(r"^pub\(crate\) fn (\w+)(.*?)(?:^| )\{$", re.M | re.S)
+METHODS = re.compile(r"^impl(?:<.*>)? (\w+)(?:<.*>)? \{\n(.*?)^\}$", re.M | re.S)
+METHOD = re.compile(r"^    pub fn (\w+)(.*?) \{$", re.M | re.S)
 PATH = re.compile(r"(?<![\w/.])(?:(?:crates|oracle|docs|include|tests|bindings|specs|proofs|must-fail)/[\w./-]*\w|\w+\.antt)")
 DECLARED = re.compile(r"^\s*(?:(?:pub|unfoldable|abbrev|opaque|record|data) +)*([^\s:]+)", re.M)
 SIGNS = (("S(?=[A-Z])", "Signed", "Unsigned"), ("(?<=_)S(?![a-zA-Z])", "signed", "unsigned"), ("(?:^|(?<=-))S(?=-)", "signed", "unsigned"))
@@ -65,7 +67,12 @@ def public(crate):
     """(module, name, contract) of each function that another crate, or C, can call."""
     lib = (crate / "src/lib.rt").read_text()
     files = [("", lib)] + [(name, (crate / f"src/{name}.rt").read_text()) for name in re.findall(r"^pub mod (\w+);", lib, re.M)]
-    return [(module, *found) for module, text in files for found in FUNCTION.findall(text)]
+    return [(module, *found) for module, text in files for found in FUNCTION.findall(text) + methods(text)]
+
+
+def methods(text):
+    """(name, contract) of each method of a file's types, whose name begins with the type's."""
+    return [(f"{of}::{name}", contract) for of, block in METHODS.findall(text) for name, contract in METHOD.findall(block)]
 
 
 def named(module, name, where, text):

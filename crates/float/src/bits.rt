@@ -1,7 +1,7 @@
 // Powers of two and masks of one word.
 ghost use Rattle.std.specs.Prelude.{◌≡◌, ◌-◌, ◌^◌, ◌≤◌};
 
-pub fn power(k: u32) -> u64
+pub(crate) fn power(k: u32) -> u64
     requires { k ≤ 63 }
     ensures { result ≡ 2 ^ k }
 {
@@ -9,7 +9,7 @@ pub fn power(k: u32) -> u64
 }
 
 // The k low bits set.
-pub fn ones(k: u32) -> u64
+pub(crate) fn ones(k: u32) -> u64
     requires { k ≤ 63 }
     ensures { result ≡ 2 ^ k - 1 }
 {

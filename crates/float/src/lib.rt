@@ -3,6 +3,6 @@
 // (IEEE 754, 3.4). Inner functions of `from_float` and `to_float`.
 #![tactic(auto)]
 
-pub mod bits;
+mod bits;
 pub mod pattern;
 pub mod rounding;

@@ -4,7 +4,6 @@ ghost use Rattle.laws.specs.Nearest.{nearest_even, nearest_by};
 ghost use Rattle.float.specs.Folds.{Folds};
 
 use crate::bits;
-use std::cmp::Ordering;
 use wide::Wide;
 
 // Past two words no format needs more than that there is something: whole 2^64 are dropped.
@@ -26,6 +25,7 @@ pub(crate) fn scaled(m: u64, up: u32, down: u32) -> Wide
 }
 
 // m / 2^k, by what is left of m: less than half of 2^k, more, or half.
+#[tactic(auto, using(format::specs::Place::masked), unfolding(laws::specs::Nearest::nearest_even))]
 pub fn nearest(m: u64, k: u32) -> u64
     requires { (0 < k) × (k < 64) }
     ensures { result ≡ nearest_even m (2 ^ k) }
@@ -38,9 +38,12 @@ fn by_rest(whole: u64, rest: u64, unit: u64) -> u64
     requires { (whole < 2 ^ 63) × (rest < 2 ^ 63) }
     ensures { result ≡ nearest_by whole rest unit }
 {
-    match (rest * 2).cmp(&unit) {
-        Ordering::Less => whole,
-        Ordering::Greater => whole + 1,
-        Ordering::Equal => whole + whole % 2,
+    // not by `cmp`: with it from_f64 is slower by a tenth, and to_f32 by a fifth
+    if rest * 2 < unit {
+        return whole;
     }
+    if unit < rest * 2 {
+        return whole + 1;
+    }
+    whole + whole % 2
 }
