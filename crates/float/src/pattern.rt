@@ -48,6 +48,7 @@ impl Binary {
     pub fn biased(self, pattern: u64) -> u32
         ensures { result ≡ biasedOf (binary_of self) pattern }
     {
+        // `as`: after the mask there is nothing that a `try_from` could refuse
         ((pattern >> (self.precision - 1)) & bits::ones(self.field)) as u32
     }
 
@@ -62,7 +63,7 @@ impl Binary {
     pub fn last(self) -> u32
         ensures { result ≡ 2 ^ self.field - 1 }
     {
-        bits::ones(self.field) as u32
+        (1 << self.field) - 1
     }
 
     // The magnitude x 2^frac, rounded: an infinity counts as 2^64, which is past every format.
@@ -101,6 +102,6 @@ impl Binary {
     fn bias(self) -> u32
         ensures { result ≡ biasOf (binary_of self) }
     {
-        bits::ones(self.field - 1) as u32
+        (1 << (self.field - 1)) - 1
     }
 }

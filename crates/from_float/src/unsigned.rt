@@ -9,6 +9,7 @@ use crate::refusal;
 use float::pattern::Binary;
 use format::{Manner, UnsignedAnswer};
 
+// C has both names, over one body.
 pub fn from_f32(pattern: u32, width: u32, frac: u32, manner: Manner) -> UnsignedAnswer
     ensures { UnsignedF32 pattern width frac manner result }
 {

@@ -9,7 +9,7 @@ use crate::encode;
 use float::pattern::Binary;
 use format::UnsignedAnswer;
 
-// The pattern of a raw's number, as the answer's value.
+// The pattern of a raw's number, as the answer's value. C has both names, over one body.
 pub fn to_f32(raw: i64, width: u32, frac: u32) -> UnsignedAnswer
     ensures { SignedToF32 raw width frac result }
 {
