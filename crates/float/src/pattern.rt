@@ -3,6 +3,7 @@
 ghost use Rattle.float.specs.Parts.{Roomy};
 
 use crate::{bits, rounding};
+use format::Format;
 use wide::Wide;
 
 // A format of patterns that one word holds: the precision p and the width of the exponent field.
@@ -66,10 +67,9 @@ impl Binary {
         (1 << self.field) - 1
     }
 
-    // The magnitude x 2^frac, rounded: an infinity counts as 2^64, which is past every format.
-    pub fn magnitude(self, pattern: u64, frac: u32) -> Wide
-        requires { frac ≤ 64 }
-        ensures { Folds (magnitude_of (binary_of self) frac pattern) result }
+    // The magnitude x 2^F, rounded: an infinity counts as 2^64, which is past every format.
+    pub fn magnitude(self, pattern: u64, format: Format) -> Wide
+        ensures { Folds (magnitude_of (binary_of self) format.frac pattern) result }
     {
         let e = self.biased(pattern);
         if e == self.last() {
@@ -78,7 +78,7 @@ impl Binary {
         let m = self.significand(e, self.trailing(pattern));
         // how far it stands above the least positive number: a subnormal one as the first normal ones
         let place = e.saturating_sub(1);
-        rounding::scaled(m, frac + place, self.least())
+        rounding::scaled(m, format.frac + place, self.least())
     }
 
     // T with the leading one before it, which a subnormal number has not.

@@ -2,19 +2,21 @@
 -- `from-as` says that this is the meaning. Assumes nothing.
 use Rattle.std.specs.Prelude.{◌≡◌, Bool, cond, ℕ, ◌-◌, ◌^◌, ◌≤◌, ℤ}
 use Rattle.std.proofs.Math.Path.{refl, sym}
-use Rattle.std.proofs.Common.{ap, ◌∙◌, arith}
+use Rattle.std.proofs.Common.{ap, ◌∙◌, subst, arith}
 use Rattle.std.proofs.Math.Bool.{true, false}
 use Rattle.std.proofs.Math.Dec.{eqb}
-use borrow.Author.Tests.{eqb-true, eqb-false}
+use borrow.Author.Tests.{eqb-true, eqb-false, eq-eqb, ne_eqb}
 use Rattle.wide.specs.declared.Wide.{Wide}
 use Rattle.format.specs.declared.Manner.{Manner}
 use Rattle.format.specs.declared.Manner.TheVariants.{Strict, Saturating, Wrapping, Overflowing}
 use Rattle.format.specs.Meaning.{Sign, is_width, settle, unless, fault_of, with_sign, exact, done, refused, guarded}
+use Rattle.format.specs.declared.refusal.Refusal.{Refusal}
+use Rattle.format.specs.Checked.{Opens, Refuses}
 use Rattle.format.specs.Fault.{fault-free, width-bounds}
 use Rattle.format.specs.Settle.{unless-fault, unless-none}
 use Rattle.format.proofs.Far.{far-end}
 use Rattle.float.specs.Meaning.{Binary, negative, biased, trailing, steps, nan, infinite, finite, of_fields, pattern_value, raw_of_steps}
-use Rattle.float.specs.Parts.{magnitude_of}
+use Rattle.float.specs.Parts.{magnitude_of, at-end, before-end}
 use Rattle.float.specs.Folds.{Folds, settle-folds}
 use Rattle.from_float.specs.Meaning.{infinity, of_value, from_float_of}
 
@@ -97,3 +99,58 @@ module _ (b : Binary) (k : Manner) (w f x : ℕ) {fault : ℕ} (e : fault ≡ wh
   from-refused s h =
       from-as b k s w f x ∙ unless-fault (whole_fault b k w f x) (settle k s w (with_sign (negative b x) (magnitude_of b f x))) (λ z. h (e ∙ z))
       ∙ ap refused (sym e)
+
+-- the same in the format that the check let through
+pub from-opened : (b : Binary) (k : Manner) (s : Sign) (w f x : ℕ) {v g : ℕ} {neg : Bool} {r : Wide} → Opens (whole_fault b k w f x) w f v g
+    → neg ≡ negative b x → Folds (magnitude_of b g x) r → settle k s v (exact neg r.high r.low) ≡ from_float_of b k s w f x
+from-opened b k s w f x {r = r} o n folds =
+    rw o.width_is (from-done b k w f x refl s {r = r} o.free n (subst (λ (g : ℕ). Folds (magnitude_of b g x) r) o.frac_is folds))
+
+-- ---- the format's refusal, and then the pattern's
+module _ (b : Binary) (k : Manner) (w f x : ℕ) {n : ℕ} (e : n ≡ fault_of w f) where
+  pub whole-first : (n ≡ 0 → ⊥) → n ≡ whole_fault b k w f x
+  unfolding whole_fault
+  whole-first h = rw (ne_eqb (fault_of w f) 0 (λ z. h (e ∙ z))) e
+
+  pub whole-second : {r : ℕ} → n ≡ 0 → r ≡ pattern_fault b k x → r ≡ whole_fault b k w f x
+  unfolding whole_fault
+  whole-second z q = rw (eq-eqb (fault_of w f) 0 (sym e ∙ z)) q
+
+module _ {k : Manner} where
+  pub infinite-strict : k ≡ Strict → 30 ≡ infinite_fault k
+  unfolding infinite_fault
+  infinite-strict e = rw e
+
+  pub infinite-saturating : k ≡ Saturating → 0 ≡ infinite_fault k
+  unfolding infinite_fault
+  infinite-saturating e = rw e
+
+  pub infinite-wrapping : k ≡ Wrapping → 30 ≡ infinite_fault k
+  unfolding infinite_fault
+  infinite-wrapping e = rw e
+
+  pub infinite-overflowing : k ≡ Overflowing → 30 ≡ infinite_fault k
+  unfolding infinite_fault
+  infinite-overflowing e = rw e
+
+-- ---- one law for each way out of the tests, e, t and l what the code finds of the pattern
+module _ (b : Binary) (x : ℕ) {e l : ℕ} (exponent : e ≡ biased b x) (end : l ≡ 2 ^ b.field - 1) where
+  pub fault-infinite : (k : Manner) {t r : ℕ} → e ≡ l → t ≡ trailing b x → t ≡ 0 → r ≡ infinite_fault k → r ≡ pattern_fault b k x
+  unfolding pattern_fault
+  fault-infinite k h digits z q = simp (at-end b x exponent end h, eq-eqb (trailing b x) 0 (sym digits ∙ z)) q
+
+  pub fault-nan : (k : Manner) {t : ℕ} → e ≡ l → t ≡ trailing b x → (t ≡ 0 → ⊥) → 30 ≡ pattern_fault b k x
+  unfolding pattern_fault
+  fault-nan k h digits z = simp (at-end b x exponent end h, ne_eqb (trailing b x) 0 (λ y. z (digits ∙ y)))
+
+  pub fault-none : (k : Manner) → (e ≡ l → ⊥) → 0 ≡ pattern_fault b k x
+  unfolding pattern_fault
+  fault-none k h = simp (before-end b x exponent end h)
+
+-- ---- so the check that goes by them refuses what the meaning does
+module _ (b : Binary) (k : Manner) (w f x : ℕ) {e : Refusal} where
+  pub refuses-format : Refuses (fault_of w f) e → Refuses (whole_fault b k w f x) e
+  refuses-format r = subst (λ (n : ℕ). Refuses n e) (whole-first b k w f x refl r.fault) r
+
+  pub refuses-pattern : fault_of w f ≡ 0 → Refuses (pattern_fault b k x) e → Refuses (whole_fault b k w f x) e
+  refuses-pattern z r = subst (λ (n : ℕ). Refuses n e) (whole-second b k w f x refl z refl) r
