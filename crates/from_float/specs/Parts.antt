@@ -100,12 +100,6 @@ module _ (b : Binary) (k : Manner) (w f x : ℕ) {fault : ℕ} (e : fault ≡ wh
       from-as b k s w f x ∙ unless-fault (whole_fault b k w f x) (settle k s w (with_sign (negative b x) (magnitude_of b f x))) (λ z. h (e ∙ z))
       ∙ ap refused (sym e)
 
--- the same in the format that the check let through
-pub from-opened : (b : Binary) (k : Manner) (s : Sign) (w f x : ℕ) {v g : ℕ} {neg : Bool} {r : Wide} → Opens (whole_fault b k w f x) w f v g
-    → neg ≡ negative b x → Folds (magnitude_of b g x) r → settle k s v (exact neg r.high r.low) ≡ from_float_of b k s w f x
-from-opened b k s w f x {r = r} o n folds =
-    rw o.width_is (from-done b k w f x refl s {r = r} o.free n (subst (λ (g : ℕ). Folds (magnitude_of b g x) r) o.frac_is folds))
-
 -- ---- the format's refusal, and then the pattern's
 module _ (b : Binary) (k : Manner) (w f x : ℕ) {n : ℕ} (e : n ≡ fault_of w f) where
   pub whole-first : (n ≡ 0 → ⊥) → n ≡ whole_fault b k w f x
@@ -147,10 +141,15 @@ module _ (b : Binary) (x : ℕ) {e l : ℕ} (exponent : e ≡ biased b x) (end :
   unfolding pattern_fault
   fault-none k h = simp (before-end b x exponent end h)
 
--- ---- so the check that goes by them refuses what the meaning does
-module _ (b : Binary) (k : Manner) (w f x : ℕ) {e : Refusal} where
-  pub refuses-format : Refuses (fault_of w f) e → Refuses (whole_fault b k w f x) e
-  refuses-format r = subst (λ (n : ℕ). Refuses n e) (whole-first b k w f x refl r.fault) r
+-- ---- so, in the format that was let through, the check of the pattern refuses as the meaning does, and what it lets through is settled
+module _ (b : Binary) (k : Manner) (w f x : ℕ) {v g : ℕ} (o : Opens (fault_of w f) w f v g) where
+  whole-pattern : pattern_fault b k x ≡ whole_fault b k w f x
+  whole-pattern = whole-second b k w f x refl o.free refl
 
-  pub refuses-pattern : fault_of w f ≡ 0 → Refuses (pattern_fault b k x) e → Refuses (whole_fault b k w f x) e
-  refuses-pattern z r = subst (λ (n : ℕ). Refuses n e) (whole-second b k w f x refl z refl) r
+  pub refuses-pattern : {e : Refusal} → Refuses (pattern_fault b k x) e → Refuses (whole_fault b k w f x) e
+  refuses-pattern {e} r = subst (λ (n : ℕ). Refuses n e) whole-pattern r
+
+  pub from-opened : (s : Sign) {neg : Bool} {r : Wide} → pattern_fault b k x ≡ 0 → neg ≡ negative b x → Folds (magnitude_of b g x) r
+      → settle k s v (exact neg r.high r.low) ≡ from_float_of b k s w f x
+  from-opened s {r = r} z n folds =
+      rw o.width_is (from-done b k w f x whole-pattern s {r = r} z n (subst (λ (g : ℕ). Folds (magnitude_of b g x) r) o.frac_is folds))

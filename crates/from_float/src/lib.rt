@@ -10,7 +10,7 @@ ghost use Rattle.from_float.specs.Promise.{F32, F64};
 mod refusal;
 
 use float::pattern::Binary;
-use format::{Answered, Exact, Manner, Raw};
+use format::{Answered, Exact, Format, Manner, Raw};
 
 // C has both names, over one body.
 pub fn from_f32<R: Raw>(pattern: u32, width: u32, frac: u32, manner: Manner) -> Answered<R>
@@ -29,7 +29,8 @@ pub fn from_f64<R: Raw>(pattern: u64, width: u32, frac: u32, manner: Manner) -> 
 fn from<R: Raw>(binary: Binary, pattern: u64, width: u32, frac: u32, manner: Manner) -> Answered<R>
     ensures { result ≡ answered R.kind (from_float_of (binary_of binary) manner R.kind.sign width frac pattern) }
 {
-    let format = refusal::opened(binary, pattern, width, frac, manner)?;
+    let format = Format::new(width, frac)?;
+    refusal::of_pattern(binary, pattern, manner)?;
     let m = binary.magnitude(pattern, format);
     let exact = Exact {
         neg: binary.negative(pattern),

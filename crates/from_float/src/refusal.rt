@@ -1,33 +1,17 @@
-// The refusals of document 01 in their order: of the format, then of the pattern.
+// What a pattern is refused for, after its format: a NaN, or an infinity outside the saturating manner (30).
 ghost use Rattle.std.specs.Prelude.{◌≡◌, IfOk, IfErr};
-ghost use Rattle.format.specs.Checked.{Opens, Refuses};
-ghost use Rattle.format.specs.Meaning.{checked};
+ghost use Rattle.format.specs.Checked.{Refuses};
 ghost use Rattle.float.specs.Formats.{binary_of};
-ghost use Rattle.from_float.specs.Parts.{infinite_fault, pattern_fault, whole_fault};
+ghost use Rattle.from_float.specs.Parts.{infinite_fault, pattern_fault};
 
 use float::pattern::Binary;
-use format::{Format, Manner, Refusal};
+use format::{Manner, Refusal};
 
-// The format, where nothing is refused.
-pub(crate) fn opened(
-    binary: Binary,
-    pattern: u64,
-    width: u32,
-    frac: u32,
-    manner: Manner,
-) -> Result<Format, Refusal>
-    ensures ok { IfOk result (λ x. Opens (whole_fault (binary_of binary) manner width frac pattern) width frac x.width x.frac) }
-    ensures err { IfErr result (Refuses (whole_fault (binary_of binary) manner width frac pattern)) }
-{
-    let format = Format::new(width, frac)?;
-    of_pattern(binary, pattern, manner)?;
-    Ok(format)
-}
-
-// A NaN, or an infinity outside the saturating manner.
-#[tactic(auto, unfolding(crate::specs::Parts::pattern_fault, format::specs::Meaning::checked, format::specs::Meaning::guarded, format::specs::Refusal::named))]
-fn of_pattern(binary: Binary, pattern: u64, manner: Manner) -> Result<(), Refusal>
-    ensures { result ≡ checked (pattern_fault (binary_of binary) manner pattern) tt }
+// An infinity or a NaN: E is the last one there is.
+#[tactic(auto, unfolding(crate::specs::Parts::pattern_fault, format::specs::Refusal::named))]
+pub(crate) fn of_pattern(binary: Binary, pattern: u64, manner: Manner) -> Result<(), Refusal>
+    ensures ok { IfOk result (λ x. pattern_fault (binary_of binary) manner pattern ≡ 0) }
+    ensures err { IfErr result (Refuses (pattern_fault (binary_of binary) manner pattern)) }
 {
     if binary.biased(pattern) == binary.last() {
         if binary.trailing(pattern) == 0 {
@@ -38,9 +22,10 @@ fn of_pattern(binary: Binary, pattern: u64, manner: Manner) -> Result<(), Refusa
     Ok(())
 }
 
-#[tactic(auto, unfolding(crate::specs::Parts::infinite_fault, format::specs::Meaning::checked, format::specs::Meaning::guarded, format::specs::Refusal::named))]
+#[tactic(auto, unfolding(crate::specs::Parts::infinite_fault, format::specs::Refusal::named))]
 fn of_infinity(manner: Manner) -> Result<(), Refusal>
-    ensures { result ≡ checked (infinite_fault manner) tt }
+    ensures ok { IfOk result (λ x. infinite_fault manner ≡ 0) }
+    ensures err { IfErr result (Refuses (infinite_fault manner)) }
 {
     match manner {
         Manner::Strict => Err(Refusal::NotANumber),
