@@ -7,10 +7,10 @@ use native.Mathlib.Omega.{arith}
 use lib.Pow.{pow_pos, pow_mono}
 use lib.IntN.{ℤ, pos, nat_abs}
 use lib.Signed.{lt_z}
-use borrow.Author.Tests.{le-ltb}
-use Rattle.format.specs.declared.UnsignedAnswer.TheVariants.{Done as DoneU}
-use Rattle.format.specs.Meaning.{fault_of, done, unsigned_answer}
-use Rattle.format.specs.Answer.{done-unsigned, pass-unsigned}
+use Rattle.std.specs.Prelude.{Ok}
+use Rattle.format.specs.Checked.{Opens}
+use Rattle.format.specs.Meaning.{fault_of, done, answered, unsigned_kind}
+use Rattle.format.specs.Answer.{done-answered, pass-answered}
 use Rattle.laws.specs.Nearest.{nearest_even}
 use Rattle.float.specs.Meaning.{Binary}
 use Rattle.float.specs.Parts.{binary, Roomy}
@@ -50,15 +50,10 @@ module _ (p w n f : ℕ) {r : ℕ} (e : Encoded p w n f r) where
   pub with-sign : {neg : Bool} {s : ℕ} → neg ≡ true → s ≡ 2 ^ (w + (p - 1)) → s + r ≡ pattern_of (binary p w) neg n f
   with-sign t q = rw t (ap₂ (λ (x y : ℕ). x + y) q e.pattern ∙ sym (pattern-sign (binary p w) n f))
 
--- ---- the answer
-module _ (b : Binary) (w f : ℕ) {fault x : ℕ} (d : fault ≡ fault_of w f) (z : fault ≡ 0) where
-  done-pattern : (a : ℤ) → x ≡ pattern_of b (lt_z a (pos 0)) (nat_abs a) f → DoneU x false ≡ unsigned_answer (to_float_of b w f a)
-  done-pattern a e = pass-unsigned (fault_of w f) (done (pos (pattern_of b (lt_z a (pos 0)) (nat_abs a) f)) false) d z (done-unsigned refl e)
-
-  -- a signed number y was read back as a
-  pub answer-signed : {y : ℤ} (a : ℤ) {n : ℕ} → y ≡ a → n ≡ nat_abs y → x ≡ pattern_of b (lt_z y (pos 0)) n f → DoneU x false ≡ unsigned_answer (to_float_of b w f a)
-  answer-signed {y} a same size e =
-      done-pattern a (e ∙ ap (λ (m : ℕ). pattern_of b (lt_z y (pos 0)) m f) size ∙ ap (λ (v : ℤ). pattern_of b (lt_z v (pos 0)) (nat_abs v) f) same)
-
-  pub answer-unsigned : (n : ℕ) → x ≡ pattern_of b false n f → DoneU x false ≡ unsigned_answer (to_float_of b w f (pos n))
-  answer-unsigned n e = done-pattern (pos n) (e ∙ ap (λ (t : Bool). pattern_of b t n f) (sym (le-ltb n 0 (omega arith))))
+-- ---- the answer, of a number a that was taken apart, in the format that was let through
+pub encoded-answer : (b : Binary) (w f : ℕ) (a : ℤ) {v g n x : ℕ} {neg : Bool} → Opens (fault_of w f) w f v g → neg ≡ lt_z a (pos 0)
+    → n ≡ nat_abs a → x ≡ pattern_of b neg n g → Ok (record { raw = x; flag = false }) ≡ answered unsigned_kind (to_float_of b w f a)
+encoded-answer b w f a {x = x} o sign size e =
+    let same : x ≡ pattern_of b (lt_z a (pos 0)) (nat_abs a) f = rw (← sign, ← size, ← o.frac_is) e in
+    pass-answered unsigned_kind (fault_of w f) (done (pos (pattern_of b (lt_z a (pos 0)) (nat_abs a) f)) false) o.free
+    (done-answered unsigned_kind refl same)

@@ -8,13 +8,13 @@ ghost use Rattle.to_float.specs.Encoding.{Digits, Encoded, place_of};
 
 use float::pattern::Binary;
 use float::rounding;
+use format::Format;
 
-// Of the number with this sign and the magnitude size / 2^frac.
-pub(crate) fn encode(binary: Binary, neg: bool, size: u64, frac: u32) -> u64
-    requires { frac ≤ 64 }
-    ensures { result ≡ pattern_of (binary_of binary) neg size frac }
+// Of the number with this sign and the magnitude size / 2^F.
+pub(crate) fn encode(binary: Binary, neg: bool, size: u64, format: Format) -> u64
+    ensures { result ≡ pattern_of (binary_of binary) neg size format.frac }
 {
-    let magnitude = of_magnitude(binary, size, frac);
+    let magnitude = of_magnitude(binary, size, format);
     if neg {
         return binary.sign() + magnitude;
     }
@@ -23,24 +23,23 @@ pub(crate) fn encode(binary: Binary, neg: bool, size: u64, frac: u32) -> u64
 
 // The significand is added to its place. Its leading one counts as one more in the exponent, so the place is that much
 // lower; and where rounding carries to 2^p, the carry goes into the exponent by itself.
-fn of_magnitude(binary: Binary, size: u64, frac: u32) -> u64
-    requires { frac ≤ 64 }
-    ensures { Encoded binary.precision binary.field size frac result }
+fn of_magnitude(binary: Binary, size: u64, format: Format) -> u64
+    ensures { Encoded binary.precision binary.field size format.frac result }
 {
     if size == 0 {
         return 0;
     }
     let digits = 64 - size.leading_zeros();
-    let place = u64::from(place(binary, digits, frac));
+    let place = u64::from(place(binary, digits, format));
     (place << (binary.precision - 1)) + significand(binary, size, digits)
 }
 
 // Where the significand's last digit stands, in steps of the least positive number.
-fn place(binary: Binary, digits: u32, frac: u32) -> u32
-    requires { (digits ≤ 64) × (frac ≤ 64) }
-    ensures { result ≡ place_of binary.precision binary.field frac digits }
+fn place(binary: Binary, digits: u32, format: Format) -> u32
+    requires { digits ≤ 64 }
+    ensures { result ≡ place_of binary.precision binary.field format.frac digits }
 {
-    digits + (binary.least() - frac) - binary.precision
+    digits + (binary.least() - format.frac) - binary.precision
 }
 
 // The p leading of the digits, rounded: 2^(p-1) to 2^p.

@@ -1,6 +1,7 @@
 -- `to_float::encode::of_magnitude` meets its contract: the place and the significand make the sum that the pattern is. Assumes nothing.
 use mathlib.Core.Path.{◌∙◌}
 use native.Mathlib.Omega.{arith}
+use Rattle.float.specs.Formats.{frac_within}
 use Rattle.to_float.specs.Encoding.{digits-of}
 use Rattle.to_float.proofs.Encodes.{sum_fits, encoded, encoded-zero}
 use Rattle.to_float.proofs.encode.of_magnitude.Goals as goal
@@ -14,9 +15,9 @@ significand-requires c = digits-of c.args.size (omega arith) c.ranges.size.fits
 pub overflow_add-result : goal.overflow_add-result
 overflow_add-result c =
     let digits = digits-of c.args.size (omega arith) c.ranges.size.fits in
-    record { fits = sum_fits _ _ _ _ _ c.args.binary.room digits c.requires (c.from-place.ensures ∙ c.place.ensures) c.significand.ensures }
+    record { fits = sum_fits _ _ _ _ _ c.args.binary.room digits (frac_within _ _ c.args.format.one_of_four c.args.format.within) (c.from-place.ensures ∙ c.place.ensures) c.significand.ensures }
 
 pub returns : goal.returns
 returns c =
     let digits = digits-of c.args.size (omega arith) c.ranges.size.fits in
-    encoded _ _ _ _ _ c.args.binary.room digits c.requires (c.from-place.ensures ∙ c.place.ensures) c.significand.ensures
+    encoded _ _ _ _ _ c.args.binary.room digits (frac_within _ _ c.args.format.one_of_four c.args.format.within) (c.from-place.ensures ∙ c.place.ensures) c.significand.ensures
