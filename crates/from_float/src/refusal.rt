@@ -28,9 +28,7 @@ fn of_infinity(manner: Manner) -> Result<(), Refusal>
     ensures err { IfErr result (Refuses (infinite_fault manner)) }
 {
     match manner {
-        Manner::Strict => Err(Refusal::NotANumber),
         Manner::Saturating => Ok(()),
-        Manner::Wrapping => Err(Refusal::NotANumber),
-        Manner::Overflowing => Err(Refusal::NotANumber),
+        Manner::Strict | Manner::Wrapping | Manner::Overflowing => Err(Refusal::NotANumber),
     }
 }
