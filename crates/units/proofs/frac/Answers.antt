@@ -2,7 +2,7 @@
 use Rattle.std.proofs.Common.{◌∙◌, arith, ℕ, ◌*◌, ◌%◌, ◌^◌, ◌≡◌, ◌<◌, ◌≤◌, true, pow_pos, shl_exact}
 use native.Mathlib.Nat.{one-mul}
 use Rattle.format.specs.Fault.{width-bounds}
-use Rattle.format.specs.Width.{is_width}
+use Rattle.format.specs.Meaning.{is_width}
 use Rattle.units.specs.Units.{frac-none, frac-some}
 use Rattle.units.proofs.frac.Goals as goal
 
