@@ -19,8 +19,7 @@ use Rattle.laws.specs.Order.{mul-out}
 use Rattle.laws.specs.Powers.{power-sub}
 use Rattle.laws.specs.Signed.{signed as kit}
 use Rattle.format.specs.Fault.{width-bounds}
-use Rattle.format.specs.Meaning.{with_sign}
-use Rattle.format.specs.Meaning.{is_width}
+use Rattle.format.specs.Meaning.{is_width, with_sign}
 use Rattle.exact.specs.Signs.{floor-zero}
 use Rattle.units.specs.Meaning.{nearest_away, by_size, floor_to, int_part, frac_part}
 
