@@ -27,17 +27,16 @@ same_then a b rest h = go (eqb a b) refl h
     go true e h = (eqb-true a b e, h)
     go false e h = absurd (omega arith)
 
-pub record Fit (n samples outputs clips : ℕ) : Type 0 where
+pub record Fit (samples outputs clips : ℕ) : Type 0 where
   pub outputs-fit : outputs ≡ samples
   pub clips-fit : clips ≡ samples
-  pub few : n ≤ most_taps
 
-pub block_fit : (n samples outputs clips : ℕ) → block_fault n samples outputs clips ≡ 0 → Fit n samples outputs clips
+pub block_fit : (n samples outputs clips : ℕ) → block_fault n samples outputs clips ≡ 0 → Fit samples outputs clips
 unfolding block_fault
 block_fit n samples outputs clips h =
     let a = same_then samples outputs (cond (eqb samples clips) (taps_fault n) 5) h in
     let b = same_then samples clips (taps_fault n) a.1 in
-    record { outputs-fit = omega arith; clips-fit = omega arith; few = taps-few n b.1 }
+    record { outputs-fit = omega arith; clips-fit = omega arith }
 
 -- ---- what a refusal leaves, and what is done without one: r is what the check said
 module _ {A B : Type 0} (fault : ℕ) (a : A) (refused : Refusal → B) (done : B) where
