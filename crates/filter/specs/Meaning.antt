@@ -3,8 +3,7 @@
 use Rattle.std.specs.Prelude.{Ok, Err, Bool, true, false, cond, not, List, [], ◌∷◌, map, ℕ, ◌+◌, ◌^◌, leb, eqb, ℤ, pos, nat_abs, ◌+ℤ◌, ◌*ℤ◌, length, take, replicate}
 use Rattle.std.specs.Int.Signed.{lt_z}
 use Rattle.laws.specs.Nearest.{nearest_even}
-use Rattle.format.specs.Refusal.{named}
-use Rattle.format.specs.Meaning.{signed, fits, hold, Answered, guarded, with_sign}
+use Rattle.format.specs.Meaning.{signed, fits, hold, Answered, named, guarded, with_sign}
 use Rattle.filter.specs.declared.State.{State}
 use Rattle.filter.specs.declared.Stepped.{Stepped}
 
@@ -99,8 +98,8 @@ unfoldable pub block_fault : ℕ → ℕ → ℕ → ℕ → ℕ
 block_fault n samples outputs clips = cond (eqb samples outputs) (cond (eqb samples clips) (taps_fault n) 5) 5
 
 -- an answer that is no refusal
-abbrev pub done : {A : Type 0} → A → Bool → Answered A
-done raw flag = Ok (record { raw = raw; flag = flag })
+abbrev pub done_with : {A : Type 0} → A → Bool → Answered A
+done_with raw flag = Ok (record { raw = raw; flag = flag })
 
 -- What a call leaves. A step: the output with its clip flag; the state holds the new sample.
 abbrev pub stepped : Answered ℤ → List ℤ → Stepped
@@ -110,7 +109,7 @@ unfoldable pub step_of : List ℤ → List ℤ → ℤ → Stepped
 step_of taps before x =
     guarded (taps_fault (length taps))
     (λ n. stepped (Err (named n)) before)
-    (stepped (done (output_of taps (next before x)) (clip_of taps (next before x))) (next before x))
+    (stepped (done_with (output_of taps (next before x)) (clip_of taps (next before x))) (next before x))
 
 -- A run: how many outputs clipped; the state, the outputs and their clip bytes.
 pub record Ran : Type 0 where
@@ -123,7 +122,7 @@ abbrev pub ran : Answered ℕ → State → List ℤ → List ℕ → Ran
 ran answer state outputs marks = record { answer = answer; state = state; outputs = outputs; marks = marks }
 
 abbrev pub ran_done : Run → Ran
-ran_done r = ran (done (clipped r.flags) false) (state_of r.final) r.outputs (map bit_of r.flags)
+ran_done r = ran (done_with (clipped r.flags) false) (state_of r.final) r.outputs (map bit_of r.flags)
 
 unfoldable pub ran_of : List ℤ → State → List ℤ → List ℤ → List ℕ → Ran
 ran_of taps state samples outputs marks =

@@ -4,8 +4,7 @@ use Rattle.std.specs.Prelude.{◌≡◌, refl, ◌⊎◌, Ok, Err, Bool, true, f
 use Rattle.std.proofs.Common.{inl, inr, arith}
 use borrow.Author.Tests.{ne_eqb, eqb-true, leb-true}
 use Rattle.format.specs.declared.refusal.Refusal.{Refusal}
-use Rattle.format.specs.Refusal.{named}
-use Rattle.format.specs.Meaning.{guarded, checked}
+use Rattle.format.specs.Meaning.{named, guarded, checked}
 use Rattle.format.specs.Checked.{fault-checked, none-checked}
 use Rattle.filter.specs.Meaning.{most_taps, taps_fault, block_fault}
 

@@ -5,7 +5,7 @@ use Rattle.std.proofs.lemmas.Bool.{false≢true}
 use Rattle.format.specs.Meaning.{signed_kind, value_in, flag_in, guarded}
 use Rattle.filter.specs.declared.Stepped.{Stepped}
 use Rattle.filter.specs.Meaning.{most_taps, history, next, sum_of, held, clips, output_of, clip_of}
-use Rattle.filter.specs.Meaning.{history_after, outputs_of, clips_of, Run, run_of, taps_fault, done, stepped, step_of}
+use Rattle.filter.specs.Meaning.{history_after, outputs_of, clips_of, Run, run_of, taps_fault, done_with, stepped, step_of}
 use Rattle.filter.specs.Range.{Sample, sample-keeps, unclipped, held-sample}
 use Rattle.filter.specs.Run.{after-append, outputs-append, clips-append, after_is}
 
@@ -41,7 +41,7 @@ in_turn taps h [] = record { outputs = []; flags = []; final = h }
 in_turn taps h (x ∷ xs) = front (step_of taps h x) (in_turn taps (history (step_of taps h x).state) xs)
 
 step_is : (taps h : List ℤ) (x : ℤ) → taps_fault (length taps) ≡ 0
-    → step_of taps h x ≡ stepped (done (output_of taps (next h x)) (clip_of taps (next h x))) (next h x)
+    → step_of taps h x ≡ stepped (done_with (output_of taps (next h x)) (clip_of taps (next h x))) (next h x)
 unfolding step_of guarded
 step_is taps h x f = rw f
 

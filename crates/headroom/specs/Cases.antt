@@ -2,10 +2,9 @@
 -- Then the refusals, and cases of the signs. Assumes nothing.
 use Rattle.std.specs.Prelude.{◌≡◌, refl, Err, true, false, List, [], ◌∷◌, ℕ, ◌+◌, ◌-◌, ◌^◌, ℤ, pos, negsuc, length, replicate}
 use Rattle.std.specs.Int.Signed.{lt_z}
-use Rattle.format.specs.Refusal.{named}
 use Rattle.laws.specs.Nearest.{nearest_even, nearest_by}
-use Rattle.format.specs.Meaning.{lowest, highest, guarded, with_sign}
-use Rattle.filter.specs.Meaning.{most_taps, sum_of, rounded, level_of, taps_fault, done}
+use Rattle.format.specs.Meaning.{lowest, highest, named, guarded, with_sign}
+use Rattle.filter.specs.Meaning.{most_taps, sum_of, rounded, level_of, taps_fault, done_with}
 use Rattle.headroom.specs.declared.peak.Way.TheVariants.{High, Low}
 use Rattle.headroom.specs.Meaning.{by_sign, driven_of, driving, passes, clips_way, verdict_of, witness_of, head_fault, headed, headroom_of}
 
@@ -17,7 +16,7 @@ abbrev zeros : ℕ → List ℤ
 zeros n = replicate n (pos 0)
 
 abbrev Headroom : List ℤ → ℕ → List ℤ → Type 0
-Headroom taps verdict witness = headroom_of taps (zeros (length taps)) ≡ headed (done verdict false) witness
+Headroom taps verdict witness = headroom_of taps (zeros (length taps)) ≡ headed (done_with verdict false) witness
 
 abbrev Refusal : List ℤ → ℕ → ℕ → Type 0
 Refusal taps places number = headroom_of taps (zeros places) ≡ headed (Err (named number)) (zeros places)

@@ -2,9 +2,8 @@
 -- taps make of samples is its level. Assumes nothing.
 use Rattle.std.specs.Prelude.{Err, Bool, false, cond, List, map, ℕ, eqb, ℤ, pos, length}
 use Rattle.std.specs.Int.Signed.{lt_z}
-use Rattle.format.specs.Refusal.{named}
-use Rattle.format.specs.Meaning.{signed, lowest, highest, Answered, guarded}
-use Rattle.filter.specs.Meaning.{level_of, taps_fault, done}
+use Rattle.format.specs.Meaning.{signed, lowest, highest, Answered, named, guarded}
+use Rattle.filter.specs.Meaning.{level_of, taps_fault, done_with}
 use Rattle.headroom.specs.declared.peak.Way.{Way}
 use Rattle.headroom.specs.declared.peak.Way.TheVariants.{High, Low}
 
@@ -55,4 +54,4 @@ unfoldable pub headroom_of : List ℤ → List ℤ → Headed
 headroom_of taps witness =
     guarded (head_fault (length taps) (length witness))
     (λ n. headed (Err (named n)) witness)
-    (headed (done (verdict_of taps) false) (witness_of taps witness))
+    (headed (done_with (verdict_of taps) false) (witness_of taps witness))

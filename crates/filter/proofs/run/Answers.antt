@@ -6,12 +6,12 @@ use Rattle.format.specs.declared.refusal.Refusal.{Refusal}
 use Rattle.format.specs.Checked.{none-checked}
 use Rattle.filter.specs.Refuse.{block_fit, refuses, goes_on}
 use Rattle.filter.specs.Block.{Through}
-use Rattle.filter.specs.Meaning.{state_of, done, run_of, ran, ran_done, ran_of}
+use Rattle.filter.specs.Meaning.{state_of, done_with, run_of, ran, ran_done, ran_of}
 use Rattle.filter.proofs.run.Goals as goal
 
 -- a block that is through, put into the outcome
 same-run : {taps before samples final outputs : List ℤ} {marks : List ℕ} {count : ℕ} → Through taps before samples final outputs marks count
-    → ran (done count false) (state_of final) outputs marks ≡ ran_done (run_of taps before samples)
+    → ran (done_with count false) (state_of final) outputs marks ≡ ran_done (run_of taps before samples)
 unfolding run_of
 same-run t = rw (t.final-is, t.outputs-are, t.marks-are, t.count-is)
 

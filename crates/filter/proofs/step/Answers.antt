@@ -11,13 +11,13 @@ use Rattle.laws.specs.Signed.{ok-back}
 use Rattle.format.specs.declared.refusal.Refusal.{Refusal}
 use Rattle.format.specs.Checked.{none-checked}
 use Rattle.filter.specs.declared.sum.Held.{Held}
-use Rattle.filter.specs.Meaning.{output_of, clip_of, done, stepped, step_of}
+use Rattle.filter.specs.Meaning.{output_of, clip_of, done_with, stepped, step_of}
 use Rattle.filter.specs.Refuse.{refuses, goes_on}
 use Rattle.filter.proofs.step.Goals as goal
 
 -- what the callees give, put into the step's outcome
 same_step : (taps : List ℤ) {y : ℤ} {b : Bool} {line new : List ℤ} → y ≡ output_of taps line → b ≡ clip_of taps line → line ≡ new
-    → stepped (done y b) line ≡ stepped (done (output_of taps new) (clip_of taps new)) new
+    → stepped (done_with y b) line ≡ stepped (done_with (output_of taps new) (clip_of taps new)) new
 same_step taps o f l = rw (o, f, l)
 
 pub returns-in-Err : goal.returns-in-Err

@@ -3,14 +3,14 @@ use Rattle.std.proofs.Common.{◌≡◌, ◌∙◌, sym, false, List, ℕ, ℤ, 
 use Rattle.std.proofs.lemmas.Result.{err_from_is_err_and}
 use Rattle.format.specs.declared.refusal.Refusal.{Refusal}
 use Rattle.format.specs.Checked.{none-checked}
-use Rattle.filter.specs.Meaning.{done}
+use Rattle.filter.specs.Meaning.{done_with}
 use Rattle.filter.specs.Refuse.{refuses, goes_on}
 use Rattle.headroom.specs.Head.{head-fit}
 use Rattle.headroom.specs.Meaning.{headed, headroom_of}
 use Rattle.headroom.proofs.headroom.Goals as goal
 
 -- what the callee gives, put into the outcome
-same_head : {v w : ℕ} {kept witness : List ℤ} → v ≡ w → kept ≡ witness → headed (done v false) kept ≡ headed (done w false) witness
+same_head : {v w : ℕ} {kept witness : List ℤ} → v ≡ w → kept ≡ witness → headed (done_with v false) kept ≡ headed (done_with w false) witness
 same_head d k = rw (d, k)
 
 pub returns-in_err-taps : goal.returns-in_err-taps

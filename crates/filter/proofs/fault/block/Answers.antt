@@ -1,7 +1,6 @@
 -- `fault::block` meets its contract: the code makes the tests of `block_fault`, and leaves the rest to `Taps::new`. Assumes nothing.
 use Rattle.laws.specs.Rules.{tests}
-use Rattle.format.specs.Refusal.{named}
-use Rattle.format.specs.Meaning.{checked, guarded}
+use Rattle.format.specs.Meaning.{named, checked, guarded}
 use Rattle.filter.specs.Meaning.{block_fault}
 use Rattle.filter.proofs.fault.block.Goals as goal
 use Rattle.filter.proofs.fault.block.Goals.{then-samples-outputs-via-then-samples-outputs, then-samples-outputs-via-else-samples-outputs+then-samples-clips}

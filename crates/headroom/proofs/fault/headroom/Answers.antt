@@ -1,7 +1,6 @@
 -- `fault::headroom` meets its contract: the code makes the test of `head_fault`, and leaves the rest to `Taps::new`. Assumes nothing.
 use Rattle.laws.specs.Rules.{tests}
-use Rattle.format.specs.Refusal.{named}
-use Rattle.format.specs.Meaning.{checked, guarded}
+use Rattle.format.specs.Meaning.{named, checked, guarded}
 use Rattle.headroom.specs.Meaning.{head_fault}
 use Rattle.headroom.proofs.fault.headroom.Goals as goal
 

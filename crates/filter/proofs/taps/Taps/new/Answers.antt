@@ -1,7 +1,6 @@
 -- `Taps::new` meets its contract: the code makes the tests of `taps_fault`. Assumes nothing.
 use Rattle.laws.specs.Rules.{tests}
-use Rattle.format.specs.Refusal.{named}
-use Rattle.format.specs.Meaning.{checked, guarded}
+use Rattle.format.specs.Meaning.{named, checked, guarded}
 use Rattle.filter.specs.Meaning.{taps_fault}
 use Rattle.filter.proofs.taps.Taps.new.Goals as goal
 use Rattle.filter.proofs.taps.Taps.new.Goals.{then-is_empty-via-then-is_empty, then-is_empty-via-else-is_empty+then-raws-gt-TAPS}
