@@ -9,6 +9,8 @@ use mir.Syntax.{w64}
 use mir.Val.{bool_byte}
 use Rattle.laws.specs.Diff.{sub_out, orders}
 use Rattle.laws.specs.Signed.{ok-back}
+use Rattle.format.specs.declared.shape.Format.{Format}
+use Rattle.format.specs.Fault.{width-bounds}
 use Rattle.log10.proofs.Leading.{fives-fit}
 use Rattle.log10.proofs.Mend.{mended}
 use Rattle.log10.proofs.of_positive.Goals as goal
@@ -17,13 +19,17 @@ one_at_most : (t : Bool) → bool_byte t ≤ 1
 one_at_most true = omega arith
 one_at_most false = omega arith
 
+-- the fraction bits of a format are at most a word's
+frac-word : (x : Format) → x.frac ≤ 64
+frac-word x = omega (arith, (width-bounds x.width x.one_of_four).1, x.within)
+
 pub guess-guess-requires : goal.guess-guess-requires
-guess-guess-requires c = (omega (arith, (leading_top 64 c.args.raw c.requires.0 c.ranges.raw.fits).1), c.requires.1)
+guess-guess-requires c = (omega (arith, (leading_top 64 c.args.raw c.requires c.ranges.raw.fits).1), frac-word c.args.format)
 
 pub next_reached-requires : goal.next_reached-requires
 next_reached-requires c =
     let e = c.guess-guess.ensures in
-    let fit = fives-fit c.args.raw c.args.frac c.guess-guess.result c.requires.0 c.ranges.raw.fits c.requires.1 (e.0, e.1) in
+    let fit = fives-fit c.args.raw c.args.format.frac c.guess-guess.result c.requires c.ranges.raw.fits (frac-word c.args.format) (e.0, e.1) in
     (e.2, e.3, e.4, fit)
 
 pub overflow_add-guess : goal.overflow_add-guess
@@ -37,4 +43,4 @@ returns c =
     let n = g.result + bool_byte t.result in
     let k : c.minus.result ≡ pos n -ℤ pos 20 = omega (orders, c.minus.ensures, sub_out (pos n) (pos 20)) in
     ok-back w64 c.minus.result c.minus.type_inv ∙ k
-    ∙ mended c.args.raw c.args.frac g.result c.requires.0 c.ranges.raw.fits c.requires.1 (e.0, e.1) t.result t.ensures
+    ∙ mended c.args.raw c.args.format.frac g.result c.requires c.ranges.raw.fits (frac-word c.args.format) (e.0, e.1) t.result t.ensures
