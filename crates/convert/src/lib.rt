@@ -11,7 +11,7 @@ use format::{Answered, Format, Manner, Raw, Refusal};
 
 pub mod source;
 
-// The number of a raw in another format, signed or not. The formats are numbers here: the promise speaks of refusals too.
+// The number of a raw in another format, signed or not. The formats come as numbers: what is none is refused here.
 pub fn convert<S: source::Source, T: Raw>(
     raw: S,
     from_width: u32,

@@ -1,7 +1,7 @@
 // The fives of a power of ten.
 ghost use Rattle.std.specs.Prelude.{◌≡◌, ◌-◌, ◌^◌, ◌<◌};
 
-// 5^(n - 19) as a fraction, for n below 39: what stands below the bar, and what above. A const would be copied at each call.
+// 5^(n - 19) as a fraction, for n below 39: what stands below the bar, and what above. A const is copied at each call.
 static FIVES: [(u64, u64); 39] = [
     (19_073_486_328_125, 1),
     (3_814_697_265_625, 1),
