@@ -5,7 +5,7 @@ use Rattle.std.specs.Prelude.{cond, ℕ, ◌<◌, ◌^◌, eqb, ℤ, pos, neg_�
 use Rattle.std.specs.Int.Signed.{quot_z, rem_z}
 use Rattle.laws.specs.Floor.{floor}
 use Rattle.format.specs.declared.Manner.{Manner}
-use Rattle.format.specs.Meaning.{Sign, Outcome, fault_of, unless, settle, Opens}
+use Rattle.format.specs.Meaning.{Sign, Outcome, fault_of, unless, settle, LetsThrough}
 use Rattle.exact.specs.Meaning.{or_else}
 
 -- "Sum, difference, negation"
@@ -39,5 +39,5 @@ abbrev pub division_fault : ℕ → ℕ → ℤ → ℕ
 division_fault w f b = or_else (fault_of w f) (divisor_fault b)
 
 pub record Divides (w f : ℕ) (b : ℤ) (width frac : ℕ) : Type 0 where
-  pub opens : Opens (division_fault w f b) w f width frac
+  pub opens : LetsThrough (division_fault w f b) w f width frac
   pub some : 0 < nat_abs b

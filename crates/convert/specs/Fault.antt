@@ -3,9 +3,7 @@ use Rattle.std.specs.Prelude.{◌≡◌, refl, true, false, ℕ, ◌≤◌, ◌<
 use Rattle.std.proofs.Common.{arith, le-leb}
 use Rattle.std.proofs.lemmas.Bool.{lt-leb}
 use Rattle.format.specs.declared.refusal.Refusal.TheVariants.{WrongWidth, WrongFrac}
-use Rattle.format.specs.Meaning.{is_width, fault_of}
-use Rattle.format.specs.Refusal.{named}
-use Rattle.format.specs.Checked.{Refuses}
+use Rattle.format.specs.Meaning.{is_width, fault_of, named, Refuses}
 use Rattle.format.specs.Fault.{fault-free}
 use Rattle.convert.specs.Meaning.{formats_fault}
 

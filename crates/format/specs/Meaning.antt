@@ -148,7 +148,7 @@ unfoldable pub checked : {A : Type 0} → ℕ → A → Result A Refusal
 checked n a = guarded n (λ m. Err (named m)) (Ok a)
 
 -- What a check leaves to those who go on: n is the number of the first refusal, 0 for none: there is none, and this is the format
-pub record Opens (n w f : ℕ) (width frac : ℕ) : Type 0 where
+pub record LetsThrough (n w f : ℕ) (width frac : ℕ) : Type 0 where
   pub free : n ≡ 0
   pub width_is : width ≡ w
   pub frac_is : frac ≡ f

@@ -3,10 +3,8 @@ use Rattle.std.specs.Prelude.{◌≡◌, refl, true, false, Ok, Err, ℕ, zero, 
 use Rattle.std.proofs.Common.{sym, ◌∙◌, arith, le-ltb}
 use Rattle.std.proofs.lemmas.Bool.{false≢true}
 use Rattle.std.specs.Int.Signed.{lt_z}
-use Rattle.format.specs.Meaning.{Kind, signed_kind, answered, done, refused, fault_of}
+use Rattle.format.specs.Meaning.{Kind, signed_kind, answered, done, refused, fault_of, LetsThrough, named}
 use Rattle.format.specs.Answer.{pass-answered}
-use Rattle.format.specs.Checked.{Opens}
-use Rattle.format.specs.Refusal.{named}
 use Rattle.format.specs.declared.refusal.Refusal.TheVariants.{NotPositive}
 use Rattle.log10.specs.Meaning.{log10_of, positive_only, log10_outcome}
 use Rattle.log10.specs.Promise.{Log10}
@@ -30,7 +28,7 @@ above (pos (suc n)) f h e l = rw e
 above (negsuc n) f h e l = absurd (false≢true (sym h))
 
 -- and the answers behind the format's refusals
-module _ {A : Type 0} (c : Kind A) (raw : A) {w f v g : ℕ} (o : Opens (fault_of w f) w f v g) where
+module _ {A : Type 0} (c : Kind A) (raw : A) {w f v g : ℕ} (o : LetsThrough (fault_of w f) w f v g) where
   pub refused-number : positive_only (c.number_of raw) f ≡ refused 32 → Log10 c raw w f (Err NotPositive)
   unfolding log10_outcome answered named
   refused-number e = pass-answered signed_kind (fault_of w f) (positive_only (c.number_of raw) f) o.free (rw e refl)

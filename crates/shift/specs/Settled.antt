@@ -5,8 +5,7 @@ use Rattle.format.specs.declared.Answer.{Answer}
 use Rattle.format.specs.declared.refusal.Refusal.{Refusal}
 use Rattle.format.specs.declared.Manner.{Manner}
 use Rattle.format.specs.declared.Manner.TheVariants.{Wrapping}
-use Rattle.format.specs.Meaning.{Kind, Answered, Outcome, unless, settle, wrap, done, answered}
-use Rattle.format.specs.Checked.{Opens}
+use Rattle.format.specs.Meaning.{Kind, Answered, Outcome, unless, settle, wrap, done, answered, LetsThrough}
 use Rattle.format.specs.Answer.{pass-answered}
 use Rattle.shift.specs.Meaning.{count_flag}
 use Rattle.shift.specs.Refusals.{shift_fault}
@@ -27,7 +26,7 @@ module _ {A : Type 0} (c : Kind A) (k : Manner) (n : ℕ) (y : ℕ → ℤ) wher
   abbrev outcome : ℕ → Outcome
   outcome w = done (wrap c.sign w (y w)) (count_flag k w n)
 
-  pub shifted : {x : ℤ} {w f v g : ℕ} {r : Answered A} → Opens (shift_fault k w f n) w f v g → x ≡ y v
+  pub shifted : {x : ℤ} {w f v g : ℕ} {r : Answered A} → LetsThrough (shift_fault k w f n) w f v g → x ≡ y v
       → r ≡ answered c (done (wrap c.sign v x) (count_flag k v n)) → r ≡ answered c (unless (shift_fault k w f n) (outcome w))
   shifted {w} {f} {v} o e p =
       pass-answered c (shift_fault k w f n) (outcome w) o.free

@@ -3,8 +3,7 @@
 #![tactic(auto)]
 
 ghost use Rattle.std.specs.Prelude.{◌≡◌, IfOk, IfErr};
-ghost use Rattle.format.specs.Meaning.{answered, done, wrap, exact};
-ghost use Rattle.format.specs.Checked.{Opens, Refuses};
+ghost use Rattle.format.specs.Meaning.{answered, done, wrap, exact, LetsThrough, Refuses};
 ghost use Rattle.shift.specs.Meaning.{count_flag};
 ghost use Rattle.shift.specs.Refusals.{shift_fault};
 ghost use Rattle.shift.specs.Promise.{Shl, Shr};
@@ -33,7 +32,7 @@ pub fn shr<R: Raw>(a: R, count: u32, width: u32, frac: u32, manner: Manner) -> A
 // The format of a shift by count: its own refusals first, then 10 for a count past the width, in the strict manner and
 // in the saturating one, which shifts have not.
 fn counted(count: u32, width: u32, frac: u32, manner: Manner) -> Result<Format, Refusal>
-    ensures ok { IfOk result (λ x. Opens (shift_fault manner width frac count) width frac x.width x.frac) }
+    ensures ok { IfOk result (λ x. LetsThrough (shift_fault manner width frac count) width frac x.width x.frac) }
     ensures err { IfErr result (Refuses (shift_fault manner width frac count)) }
 {
     let format = Format::new(width, frac)?;

@@ -1,7 +1,7 @@
 -- `shift::counted` meets its contract: the format first, then the count. Assumes nothing.
 use Rattle.std.proofs.Common.{arith, sym, ap}
 use Rattle.std.proofs.lemmas.Result.{err_from_is_err_and}
-use Rattle.format.specs.Refusal.{named}
+use Rattle.format.specs.Meaning.{named}
 use Rattle.exact.specs.Refusals.{refuses-first, refuses-second, opens-both}
 use Rattle.shift.specs.Refusals.{count-in, count_past, past-refused, past-free}
 use Rattle.shift.proofs.counted.Goals as goal
