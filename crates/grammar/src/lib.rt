@@ -11,17 +11,9 @@ pub mod refusal;
 pub const TEXT_LIMIT: usize = 4096;
 
 // Whether a radix is one of the four.
+#[tactic(auto, using(laws::specs::Rules::tests), unfolding(crate::specs::Meaning::is_radix))]
 pub fn is_radix(radix: u32) -> bool
     ensures { IsRadix radix result }
 {
-    if radix == 2 {
-        return true;
-    }
-    if radix == 8 {
-        return true;
-    }
-    if radix == 10 {
-        return true;
-    }
-    radix == 16
+    matches!(radix, 2 | 8 | 10 | 16)
 }
