@@ -18,7 +18,7 @@ use Rattle.grammar.specs.Run.{digit_values, body_of, values-digit, values-under,
 use Rattle.grammar.specs.Class.{class_of, digit-plain}
 use Rattle.grammar.specs.Agrees.{plain-agrees}
 use Rattle.grammar.specs.declared.byte.Class.{Class}
-use Rattle.run.specs.Run.{run_at, more-fits}
+use Rattle.run.specs.Run.{run_at, len-fits}
 use Rattle.run.specs.declared.Run.{Run}
 use Rattle.scan.specs.After.{after_run, Stopped, read-after, read-point}
 use Rattle.scan.specs.Found.{run_digits, written_of, whole_of, unmarked_of, Counted, Ready, Finds, finds-by, finds-unmarked, no-sign-at, no-sign-past}
@@ -205,16 +205,6 @@ pub record Behind (t : List ℕ) (w : Run) (from : ℕ) : Type 0 where
   pub point : get_or t w.to 0 ≡ 46
   pub inside : w.to < length t
   pub body : body_of (part t w.from w.to) ≡ run_digits t w
-
--- a run is no longer than what there is
-len-fits : (skip : Bool) (radix : ℕ) (t : List ℕ) → run_len skip radix t ≤ length t
-unfolding run_len
-len-fits skip radix [] = omega arith
-len-fits skip radix (b ∷ t) = go (is_digit radix b)
-  where
-    go : (d : Bool) → cond d (suc (run_more skip radix t)) 0 ≤ length (b ∷ t)
-    go true = omega (arith, more-fits skip radix t)
-    go false = omega arith
 
 no_span : (t : List ℕ) (k : ℕ) → run_digits t (record { from = k; to = k; digits = 0 }) ≡ []
 unfolding digit_values digits_of
