@@ -1,10 +1,8 @@
--- The exponent, a byte at a time: a digit takes it further, a `_` that is skipped leaves it, anything else is refused; and the same as the
--- code finds it. Assumes nothing.
-use Rattle.std.specs.Prelude.{◌≡◌, Bool, List, ◌∷◌, ℕ, ◌+◌, ◌*◌, ◌≤◌, ◌<◌, leb}
+-- The exponent, a byte at a time: a digit takes it further, a `_` that is skipped leaves it, anything else is refused. Assumes nothing.
+use Rattle.std.specs.Prelude.{◌≡◌, Bool, List, ◌∷◌, ℕ, ◌+◌, ◌*◌, ◌≤◌, leb}
 use Rattle.std.proofs.Math.Path.{refl, ap}
-use Rattle.std.proofs.Common.{sym, ◌∙◌, arith, ltb-true, le-leb, leb-true}
+use Rattle.std.proofs.Common.{◌∙◌, arith, ltb-true, leb-true}
 use Rattle.std.proofs.Math.Bool.{true, false, cond}
-use Rattle.std.proofs.lemmas.Bool.{lt-leb}
 use Rattle.grammar.specs.Meaning.{digit_of, Written, exp_limit, with_exp}
 use Rattle.grammar.specs.Automaton.{is_digit, NumberPart, exponent, Seen, digit, Scan, at, refuse, Sep, on_exp_digit, step}
 use Rattle.grammar.specs.Automaton.{scan, finish, on_sign, on_point, on_underscore, on_mark, on_other, reading_of}
@@ -83,42 +81,6 @@ module _ (skip : Bool) (radix b : ℕ) (x : Written) (e : ℕ) where
           ≡ reading (sep_of skip) radix t (exp_scan (cond d (exp_digit x.down e (digit_of b)) (exp_other (class_of radix b) skip seen e)) x)
       go true h = read_step (sep_of skip) radix b t exponent (exp_seen seen) (with_exp x x.down e) (exp-digit-step seen h)
       go false h = read_next (sep_of skip) radix b t exponent (exp_seen seen) (with_exp x x.down e) ∙ ap (reading (sep_of skip) radix t) (exp-other-step seen h)
-
--- ---- the steps of the exponent as the code finds them
-pub under-refused : {skip : Bool} (seen : Bool) (e : ℕ) → skip ≡ false → Refuse 16 ≡ exp_under skip seen e
-unfolding exp_under
-under-refused seen e s = rw s
-
-module _ {skip seen : Bool} (e : ℕ) where
-  pub under-on : skip ≡ true → seen ≡ true → On e ≡ exp_under skip seen e
-  unfolding exp_under
-  under-on s t = rw (s, t)
-
-  pub under_first : skip ≡ true → seen ≡ false → Refuse 14 ≡ exp_under skip seen e
-  unfolding exp_under
-  under_first s t = rw (s, t)
-
-module _ (down : Bool) (e d : ℕ) {top : ℕ} (q : top ≡ exp_limit down) where
-  pub digit-on : e * 10 + d ≤ top → On (e * 10 + d) ≡ exp_digit down e d
-  unfolding exp_digit
-  digit-on h = rw (le-leb (e * 10 + d) (exp_limit down) (omega (arith, q)))
-
-  pub digit-over : top < e * 10 + d → Refuse 19 ≡ exp_digit down e d
-  unfolding exp_digit
-  digit-over h = rw (lt-leb (e * 10 + d) (exp_limit down) (omega (arith, q)))
-
--- the class that a match found
-pub exp-by-class : (skip seen : Bool) (e : ℕ) {c j : Class} {r : ExpStep} → c ≡ j → r ≡ exp_other j skip seen e → r ≡ exp_other c skip seen e
-exp-by-class skip seen e q h = h ∙ ap (λ (k : Class). exp_other k skip seen e) (sym q)
-
-module _ (skip : Bool) (radix : ℕ) (seen down : Bool) (e b : ℕ) {g : Bool} (t : g ≡ is_digit 10 b) {r : ExpStep} where
-  pub exp-step-digit : {d : ℕ} → g ≡ true → d ≡ digit_of b → r ≡ exp_digit down e d → r ≡ exp_step_of skip radix seen down e b
-  unfolding exp_step_of
-  exp-step-digit h q z = rw (sym t ∙ h) (z ∙ ap (exp_digit down e) q)
-
-  pub exp-step-other : {c : Class} → g ≡ false → c ≡ class_of radix b → r ≡ exp_other c skip seen e → r ≡ exp_step_of skip radix seen down e b
-  unfolding exp_step_of
-  exp-step-other h q z = rw (sym t ∙ h) (z ∙ ap (λ (k : Class). exp_other k skip seen e) q)
 
 -- an exponent stays within a signed word of 32 bits
 pub exp-bound : (skip : Bool) (radix : ℕ) (seen down : Bool) (e b : ℕ) {v : ℕ} → e ≤ 2147483648 → On v ≡ exp_step_of skip radix seen down e b → v ≤ 2147483648
