@@ -1,11 +1,12 @@
 -- What the scanner's answer stands for: the digits of its runs in the text. Assumes nothing.
-use Rattle.std.specs.Prelude.{◌≡◌, Bool, ◌&&◌, ℕ, suc, ◌+◌, ◌≤◌, ◌<◌, length, drop, get_or}
+use Rattle.std.specs.Prelude.{◌≡◌, Bool, ◌&&◌, ℕ, suc, ◌+◌, ◌-◌, ◌≤◌, ◌<◌, length, take, drop, get_or}
 use Rattle.std.proofs.Math.Path.{refl, sym, ap, ap₂, subst}
 use Rattle.std.proofs.Common.{◌∙◌, arith, add-one, drop_of_length-le, length-append, drop-cons, eq-eqb, ne_eqb, eqb-true}
 use Rattle.std.proofs.Math.Bool.{true, false, cond}
 use mathlib.Core.List.{List, ◌++◌}
-use Rattle.std.proofs.Math.Dec.{eqb}
-use Rattle.std.proofs.lemmas.Bool.{eqb-false}
+use Rattle.std.proofs.Math.Dec.{eqb, ltb}
+use Rattle.std.proofs.lemmas.Bool.{eqb-false, ltb-true, ltb-false}
+use Rattle.std.proofs.lemmas.List.{take_rest, get_or_default}
 use Rattle.grammar.specs.Meaning.{is_sign, Written, Reading, number, unread, with_exp}
 use Rattle.grammar.specs.Automaton.{at, exponent, nothing, sign}
 use Rattle.grammar.specs.Reading.{reading, exp_at, exp_end, read-exp-end, read-refused, sign_first, read-exponent-sign, read-exponent-unsigned}
@@ -83,50 +84,28 @@ pub data Finds (t : List ℕ) : Found → Reading → Type 0 where
   finds : {p : Parsed} {y : Reading} → y ≡ number (written_of t p) → Ready t p → Finds t (Number p) y
   refuses : {n : ℕ} {y : Reading} → y ≡ unread n → Finds t (Refused n) y
 
--- ---- the ends as the code finds them, g whether there are no digits
-module _ (p : Parsed) {g : Bool} (t : g ≡ no_digits p) where
-  pub unmarked-none : g ≡ true → Refused 11 ≡ unmarked_of p
-  unfolding unmarked_of
-  unmarked-none h = rw (sym t ∙ h)
-
-  pub unmarked-some : g ≡ false → Number p ≡ unmarked_of p
-  unfolding unmarked_of
-  unmarked-some h = rw (sym t ∙ h)
-
-  pub exp-end-none : (seen : Bool) (e : ℕ) → g ≡ true → Refused 11 ≡ exp_end_of p seen e
-  unfolding exp_end_of
-  exp-end-none seen e h = rw (sym t ∙ h)
-
-  pub exp-end-some : {seen : Bool} (e : ℕ) → g ≡ false → seen ≡ true → Number (with_exponent p e) ≡ exp_end_of p seen e
-  unfolding exp_end_of
-  exp-end-some e h s = rw (sym t ∙ h, s)
-
-  pub exp-end-bare : {seen : Bool} (e : ℕ) → g ≡ false → seen ≡ false → Refused 17 ≡ exp_end_of p seen e
-  unfolding exp_end_of
-  exp-end-bare e h s = rw (sym t ∙ h, s)
-
--- ---- what the scan makes of the exponent's bytes, w what the whole comes to
-module _ (skip : Bool) (radix : ℕ) (t : List ℕ) (i : ℕ) (x : Written) (seen : Bool) (e : ℕ) {w : Reading}
-    (inv : reading (sep_of skip) radix (drop i t) (exp_at seen x e) ≡ w) where
-  exp-more : i < length t → reading (sep_of skip) radix (drop (i + 1) t) (exp_scan (exp_step_of skip radix seen x.down e (get_or t i 0)) x) ≡ w
+-- ---- what the scan makes of the exponent's bytes, u the text behind the sign, w what the whole comes to
+module _ (skip : Bool) (radix : ℕ) (u : List ℕ) (i : ℕ) (x : Written) (seen : Bool) (e : ℕ) {w : Reading}
+    (inv : reading (sep_of skip) radix (drop i u) (exp_at seen x e) ≡ w) where
+  exp-more : i < length u → reading (sep_of skip) radix (drop (i + 1) u) (exp_scan (exp_step_of skip radix seen x.down e (get_or u i 0)) x) ≡ w
   exp-more h =
-      ap (λ (k : ℕ). reading (sep_of skip) radix (drop k t) (exp_scan (exp_step_of skip radix seen x.down e (get_or t i 0)) x)) (add-one i)
-      ∙ sym (read-exp skip radix (get_or t i 0) x e seen (drop (suc i) t))
-      ∙ ap (λ (l : List ℕ). reading (sep_of skip) radix l (exp_at seen x e)) (sym (drop-cons t i 0 h)) ∙ inv
+      ap (λ (k : ℕ). reading (sep_of skip) radix (drop k u) (exp_scan (exp_step_of skip radix seen x.down e (get_or u i 0)) x)) (add-one i)
+      ∙ sym (read-exp skip radix (get_or u i 0) x e seen (drop (suc i) u))
+      ∙ ap (λ (l : List ℕ). reading (sep_of skip) radix l (exp_at seen x e)) (sym (drop-cons u i 0 h)) ∙ inv
 
-  pub exp-next : {s : ExpStep} {v : ℕ} → i < length t → s ≡ exp_step_of skip radix seen x.down e (get_or t i 0) → s ≡ On v
-      → reading (sep_of skip) radix (drop (i + 1) t) (exp_at true x v) ≡ w
+  pub exp-next : {s : ExpStep} {v : ℕ} → i < length u → s ≡ exp_step_of skip radix seen x.down e (get_or u i 0) → s ≡ On v
+      → reading (sep_of skip) radix (drop (i + 1) u) (exp_at true x v) ≡ w
   unfolding exp_scan
-  exp-next h q g = ap (λ (s : ExpStep). reading (sep_of skip) radix (drop (i + 1) t) (exp_scan s x)) (sym g ∙ q) ∙ exp-more h
+  exp-next h q g = ap (λ (s : ExpStep). reading (sep_of skip) radix (drop (i + 1) u) (exp_scan s x)) (sym g ∙ q) ∙ exp-more h
 
-  pub exp-stop : {s : ExpStep} {n : ℕ} → i < length t → s ≡ exp_step_of skip radix seen x.down e (get_or t i 0) → s ≡ Refuse n → Finds t (Refused n) w
+  pub exp-stop : (t : List ℕ) {s : ExpStep} {n : ℕ} → i < length u → s ≡ exp_step_of skip radix seen x.down e (get_or u i 0) → s ≡ Refuse n → Finds t (Refused n) w
   unfolding exp_scan
-  exp-stop {n = n} h q g =
-      refuses (sym (exp-more h) ∙ ap (λ (s : ExpStep). reading (sep_of skip) radix (drop (i + 1) t) (exp_scan s x)) (sym q ∙ g)
-      ∙ read-refused (sep_of skip) radix (drop (i + 1) t) n)
+  exp-stop t {n = n} h q g =
+      refuses (sym (exp-more h) ∙ ap (λ (s : ExpStep). reading (sep_of skip) radix (drop (i + 1) u) (exp_scan s x)) (sym q ∙ g)
+      ∙ read-refused (sep_of skip) radix (drop (i + 1) u) n)
 
-  pub exp-over : length t ≤ i → w ≡ exp_end (eqb (length x.digits) 0) seen (with_exp x x.down e)
-  exp-over h = sym inv ∙ ap (λ (l : List ℕ). reading (sep_of skip) radix l (exp_at seen x e)) (drop_of_length-le t h) ∙ read-exp-end (sep_of skip) radix seen x e
+  pub exp-over : length u ≤ i → w ≡ exp_end (eqb (length x.digits) 0) seen (with_exp x x.down e)
+  exp-over h = sym inv ∙ ap (λ (l : List ℕ). reading (sep_of skip) radix l (exp_at seen x e)) (drop_of_length-le u h) ∙ read-exp-end (sep_of skip) radix seen x e
 
 -- ---- the ends of the text, with the counts
 none_both : (a b : ℕ) → (eqb a 0 && eqb b 0) ≡ eqb (a + b) 0
@@ -183,25 +162,26 @@ pub no-sign-past : (t : List ℕ) (from : ℕ) → length t ≤ from → sign_fi
 unfolding sign_first
 no-sign-past t from h = rw (drop_of_length-le t h)
 
+-- ---- a byte at a place, or none, as `get` finds it
+pub inside : {i n : ℕ} → true ≡ ltb i n → i < n
+inside {i} {n} e = ltb-true i n (sym e)
+
+pub byte-at : (t : List ℕ) (i : ℕ) {b : ℕ} → true ≡ ltb i (length t) → b ≡ get_or t i b → b ≡ get_or t i 0
+byte-at t i {b} h e = e ∙ get_or_default t i b 0 (inside h)
+
+pub past : {i n : ℕ} → false ≡ ltb i n → n ≤ i
+past {i} {n} e = ltb-false i n (sym e)
+
 -- ---- from part to part
 pub finds-by : (t : List ℕ) {r : Found} {y z : Reading} → y ≡ z → Finds t r y → Finds t r z
 finds-by t {r} e f = subst (Finds t r) e f
 
-pub ready-down : (t : List ℕ) (p : Parsed) (d : Bool) {q : Parsed} → Ready t p → q ≡ with_down p d → Ready t q
-ready-down t p d h e = subst (Ready t) (sym e) (record {
-  whole-counted = h.whole-counted;
-  frac-counted = h.frac-counted;
-  small = h.small;
-  stretch = h.stretch;
-})
-
-pub ready-base : (t : List ℕ) (p : Parsed) (b : ℕ) {q : Parsed} → Ready t p → q ≡ with_mark_base p b → Ready t q
-ready-base t p b h e = subst (Ready t) (sym e) (record {
-  whole-counted = h.whole-counted;
-  frac-counted = h.frac-counted;
-  small = h.small;
-  stretch = h.stretch;
-})
+-- where the exponent's digits begin
+pub exp-begin : (t : List ℕ) (from : ℕ) (skip : Bool) (radix : ℕ) (p : Parsed)
+    → reading (sep_of skip) radix (take (length t - from) (drop from t)) (exp_at false (written_of t p) p.exp)
+    ≡ reading (sep_of skip) radix (drop from t) (at exponent sign (written_of t p))
+unfolding written_of
+exp-begin t from skip radix p = ap (λ (l : List ℕ). reading (sep_of skip) radix l (exp_at false (written_of t p) p.exp)) (take_rest t from)
 
 -- the sign of the exponent, at `from`, or none
 module _ (t : List ℕ) (from : ℕ) (skip : Bool) (radix : ℕ) (p : Parsed) where

@@ -319,19 +319,19 @@ module _ (t : List ℕ) (radix : ℕ) where
       ∙ ap (λ (l : List ℕ). reading Error radix l (at whole nothing (blank false))) (sym (drop-cons t 0 0 h)) ∙ plain-is)
       f
 
-  pub plain-empty : {r : Found} → length t ≡ 0 → Finds t r (reading (sep_of false) radix (drop 0 t) (at whole sign (blank false)))
+  pub plain-empty : {r : Found} → length t < 1 → Finds t r (reading (sep_of false) radix (drop 0 t) (at whole sign (blank false)))
       → Finds t r (plain_reading radix t)
   plain-empty h f = plain-none (no-sign-past t 0 (omega arith)) f
 
-  pub plain-plus : {r : Found} → (length t ≡ 0 → ⊥) → get_or t 0 0 ≡ 43 → Finds t r (reading (sep_of false) radix (drop 1 t) (at whole sign (blank false)))
+  pub plain-plus : {r : Found} → 1 ≤ length t → get_or t 0 0 ≡ 43 → Finds t r (reading (sep_of false) radix (drop 1 t) (at whole sign (blank false)))
       → Finds t r (plain_reading radix t)
   plain-plus h b f = plain-signed false (omega arith) (rw b) (rw b) f
 
-  pub plain-minus : {r : Found} → (length t ≡ 0 → ⊥) → get_or t 0 0 ≡ 45 → Finds t r (reading (sep_of false) radix (drop 1 t) (at whole sign (blank true)))
+  pub plain-minus : {r : Found} → 1 ≤ length t → get_or t 0 0 ≡ 45 → Finds t r (reading (sep_of false) radix (drop 1 t) (at whole sign (blank true)))
       → Finds t r (plain_reading radix t)
   plain-minus h b f = plain-signed true (omega arith) (rw b) (rw b) f
 
   pub plain-digits :
-      {r : Found} → (length t ≡ 0 → ⊥) → (get_or t 0 0 ≡ 43 → ⊥) → (get_or t 0 0 ≡ 45 → ⊥) →
+      {r : Found} → 1 ≤ length t → (get_or t 0 0 ≡ 43 → ⊥) → (get_or t 0 0 ≡ 45 → ⊥) →
       Finds t r (reading (sep_of false) radix (drop 0 t) (at whole sign (blank false))) → Finds t r (plain_reading radix t)
   plain-digits h a b f = plain-none (no-sign-at t 0 (omega arith) a b) f

@@ -7,12 +7,14 @@ ghost use Rattle.std.specs.Prelude.{◌≡◌, true};
 ghost use Rattle.grammar.specs.Meaning.{plain_reading, is_radix};
 ghost use Rattle.scan.specs.Found.{Finds};
 
+use reader::Reader;
 use run::Run;
 
 mod ends;
 pub mod literal;
 mod mark;
 mod parts;
+mod reader;
 
 // A number as it stands in the text. `base` is what the exponent scales by.
 #[derive(Clone, Copy)]
@@ -36,15 +38,14 @@ pub fn plain(text: &[u8], radix: u32) -> Found
     requires { is_radix radix ≡ true }
     ensures { Finds text.now result (plain_reading radix text.now) }
 {
-    if text.len() == 0 {
-        return parts::whole(text, 0, radix, false, false);
+    let reader = Reader {
+        text,
+        radix,
+        skip: false,
+    };
+    match text {
+        [b'+', ..] => reader.whole(1, false),
+        [b'-', ..] => reader.whole(1, true),
+        _ => reader.whole(0, false),
     }
-    let b = text[0];
-    if b == 43 {
-        return parts::whole(text, 1, radix, false, false);
-    }
-    if b == 45 {
-        return parts::whole(text, 1, radix, false, true);
-    }
-    parts::whole(text, 0, radix, false, false)
 }
