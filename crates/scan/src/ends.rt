@@ -19,10 +19,9 @@ pub(crate) fn unmarked(p: Parsed) -> Found
     ensures { result ≡ unmarked_of p }
 {
     if no_digits(p) {
-        Found::Refused(refusal::NO_DIGITS)
-    } else {
-        Found::Number(p)
+        return Found::Refused(refusal::NO_DIGITS);
     }
+    Found::Number(p)
 }
 
 // The end of the exponent: a text with no digits is none, nor is a mark with no digit after it.
@@ -31,10 +30,10 @@ pub(crate) fn exp_end(p: Parsed, seen: bool, e: u64) -> Found
     ensures { result ≡ exp_end_of p seen e }
 {
     if no_digits(p) {
-        Found::Refused(refusal::NO_DIGITS)
-    } else if seen {
-        Found::Number(Parsed { exp: e, ..p })
-    } else {
-        Found::Refused(refusal::EXP_NO_DIGITS)
+        return Found::Refused(refusal::NO_DIGITS);
     }
+    if seen {
+        return Found::Number(Parsed { exp: e, ..p });
+    }
+    Found::Refused(refusal::EXP_NO_DIGITS)
 }

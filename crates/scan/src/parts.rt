@@ -47,10 +47,10 @@ impl<'a> Reader<'a> {
             down: false,
             exp: 0,
         };
-        match self.text.get(run.to) {
-            None => ends::unmarked(p),
-            Some(b) => self.after_run(byte::class_of(*b, self.radix), run.to + 1, p),
-        }
+        let Some(b) = self.text.get(run.to) else {
+            return ends::unmarked(p);
+        };
+        self.after_run(byte::class_of(*b, self.radix), run.to + 1, p)
     }
 
     // The number's digits, once its sign was read.
@@ -72,10 +72,12 @@ impl<'a> Reader<'a> {
             down: false,
             exp: 0,
         };
-        match self.text.get(run.to) {
-            None => ends::unmarked(p),
-            Some(b'.') => self.fraction(run.to + 1, neg, run),
-            Some(b) => self.after_run(byte::class_of(*b, self.radix), run.to + 1, p),
+        let Some(b) = self.text.get(run.to) else {
+            return ends::unmarked(p);
+        };
+        if *b == b'.' {
+            return self.fraction(run.to + 1, neg, run);
         }
+        self.after_run(byte::class_of(*b, self.radix), run.to + 1, p)
     }
 }

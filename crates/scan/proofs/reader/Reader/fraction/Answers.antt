@@ -14,8 +14,8 @@ after_run-requires c =
       frac-ready s.text.now a.from s.radix s.skip c.run_at-run.ensures c.requires.0 s.legal a.neg a.whole c.requires.1,
     )
 
-pub returns-in-None : goal.returns-in-None
-returns-in-None c =
+pub returns-in_default : goal.returns-in_default
+returns-in_default c =
     let a = c.args in
     let s = a.self.now in
     let t = s.text.now in
@@ -23,10 +23,10 @@ returns-in-None c =
     part_end t a.from s.radix s.skip s.legal true (whole_of t a.neg a.whole)
     (frac_parsed a.neg a.whole c.run_at-run.result)
     (frac-ready t a.from s.radix s.skip run c.requires.0 s.legal a.neg a.whole c.requires.1)
-    (run-to t a.from s.radix s.skip run) (frac-same t a.from s.radix s.skip run a.neg a.whole) (past c.in-None.ensures.lookup.0) c.unmarked.ensures
+    (run-to t a.from s.radix s.skip run) (frac-same t a.from s.radix s.skip run a.neg a.whole) (past c.in_default.ensures.lookup.0) c.unmarked.ensures
 
-pub returns-in-Some : goal.returns-in-Some
-returns-in-Some c =
+pub returns : goal.returns
+returns c =
     let a = c.args in
     let s = a.self.now in
     let t = s.text.now in

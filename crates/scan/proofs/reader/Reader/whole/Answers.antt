@@ -13,13 +13,13 @@ fraction-requires c =
     let s = a.self.now in
     let t = s.text.now in
     let run = c.run_at-run.ensures in
-    let w = c.in-Some-eq46 in (
+    let w = c.in-Some in (
       omega (arith, inside w.ensures.lookup.0),
       record {
         counted = run-counted t a.from s.radix s.skip run;
         start = run-start t a.from s.radix s.skip run;
         next = refl;
-        point = sym (byte-at t c.run_at-run.result.to w.ensures.lookup.0 w.ensures.lookup.1) ∙ w.field-0-test;
+        point = sym (byte-at t c.run_at-run.result.to w.ensures.lookup.0 w.ensures.lookup.1) ∙ c.if-b-eq46.true;
         inside = inside w.ensures.lookup.0;
         body = run-body t a.from s.radix s.skip run s.legal;
       },
@@ -31,8 +31,8 @@ after_run-requires c =
     let s = a.self.now in
     (omega (arith, inside c.in-Some.ensures.lookup.0), whole_ready s.text.now a.from s.radix s.skip c.run_at-run.ensures c.requires s.legal a.neg)
 
-pub returns-in-None : goal.returns-in-None
-returns-in-None c =
+pub returns-in_default : goal.returns-in_default
+returns-in_default c =
     let a = c.args in
     let s = a.self.now in
     let t = s.text.now in
@@ -40,22 +40,22 @@ returns-in-None c =
     part_end t a.from s.radix s.skip s.legal false (blank a.neg)
     (whole_parsed a.neg c.run_at-run.result)
     (whole_ready t a.from s.radix s.skip run c.requires s.legal a.neg)
-    (run-to t a.from s.radix s.skip run) (whole_same t a.from s.radix s.skip run a.neg) (past c.in-None.ensures.lookup.0) c.unmarked.ensures
+    (run-to t a.from s.radix s.skip run) (whole_same t a.from s.radix s.skip run a.neg) (past c.in_default.ensures.lookup.0) c.unmarked.ensures
 
-pub returns-in-Some-eq46 : goal.returns-in-Some-eq46
-returns-in-Some-eq46 c =
+pub returns-then-b-eq46 : goal.returns-then-b-eq46
+returns-then-b-eq46 c =
     let a = c.args in
     let s = a.self.now in
     let t = s.text.now in
     let run = c.run_at-run.ensures in
-    let w = c.in-Some-eq46 in
+    let w = c.in-Some in
     part-point t a.from s.radix s.skip s.legal (blank a.neg)
     (whole_of t a.neg c.run_at-run.result)
-    (run-to t a.from s.radix s.skip run) (whole_is t a.from s.radix s.skip run a.neg) (inside w.ensures.lookup.0) (sym (byte-at t c.run_at-run.result.to w.ensures.lookup.0 w.ensures.lookup.1) ∙ w.field-0-test)
+    (run-to t a.from s.radix s.skip run) (whole_is t a.from s.radix s.skip run a.neg) (inside w.ensures.lookup.0) (sym (byte-at t c.run_at-run.result.to w.ensures.lookup.0 w.ensures.lookup.1) ∙ c.if-b-eq46.true)
     c.fraction.ensures
 
-pub returns-in-Some : goal.returns-in-Some
-returns-in-Some c =
+pub returns : goal.returns
+returns c =
     let a = c.args in
     let s = a.self.now in
     let t = s.text.now in
@@ -66,4 +66,4 @@ returns-in-Some c =
     (whole_parsed a.neg c.run_at-run.result)
     (whole_ready t a.from s.radix s.skip run c.requires s.legal a.neg)
     (run-to t a.from s.radix s.skip run) (whole_same t a.from s.radix s.skip run a.neg) (inside l.0)
-    (λ z p. c.in-Some.b-test.1 (b ∙ p)) (c.class_of.ensures ∙ ap (class_of s.radix) b) c.after_run.ensures
+    (λ z p. c.if-b-eq46.false (b ∙ p)) (c.class_of.ensures ∙ ap (class_of s.radix) b) c.after_run.ensures
