@@ -38,14 +38,10 @@ pub fn plain(text: &[u8], radix: u32) -> Found
     requires { is_radix radix ≡ true }
     ensures { Finds text.now result (plain_reading radix text.now) }
 {
-    let reader = Reader {
-        text,
-        radix,
-        skip: false,
-    };
+    let reader = Reader { radix, skip: false };
     match text {
-        [b'+', ..] => reader.whole(1, false),
-        [b'-', ..] => reader.whole(1, true),
-        _ => reader.whole(0, false),
+        [b'+', ..] => reader.whole(text, 1, false),
+        [b'-', ..] => reader.whole(text, 1, true),
+        _ => reader.whole(text, 0, false),
     }
 }

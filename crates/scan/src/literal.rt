@@ -59,13 +59,9 @@ pub fn literal(text: &[u8], signed: bool) -> Written
     let from = neg as usize;
     let body = &text[from..];
     let radix = prefix_radix(body);
-    let reader = Reader {
-        text,
-        radix,
-        skip: true,
-    };
+    let reader = Reader { radix, skip: true };
     Written {
         radix,
-        found: reader.whole(from + digits_at(body, radix), neg),
+        found: reader.whole(text, from + digits_at(body, radix), neg),
     }
 }

@@ -9,17 +9,17 @@ use crate::reader::Reader;
 use crate::{Found, Parsed, ends};
 use exponent::ExpStep;
 
-impl<'a> Reader<'a> {
+impl Reader {
     // The exponent's digits, once its sign was read.
-    fn exp_run(&self, from: usize, p: Parsed) -> Found
-        requires { (from ≤ length self.now.text.now) × Ready self.now.text.now p }
-        ensures { Finds self.now.text.now result
-            (reading (sep_of self.now.skip) self.now.radix (drop from self.now.text.now)
-            (at exponentPart signSeen (written_of self.now.text.now p))) }
+    fn exp_run(self, text: &[u8], from: usize, p: Parsed) -> Found
+        requires { (from ≤ length text.now) × Ready text.now p }
+        ensures { Finds text.now result
+            (reading (sep_of self.skip) self.radix (drop from text.now)
+            (at exponentPart signSeen (written_of text.now p))) }
     {
         let mut e = p.exp;
         let mut seen = false;
-        for b in &self.text[from..] {
+        for b in &text[from..] {
             match exponent::exp_step(*b, self.radix, self.skip, seen, p.down, e) {
                 ExpStep::On(next) => e = next,
                 ExpStep::Refuse(n) => return Found::Refused(n),
@@ -30,16 +30,16 @@ impl<'a> Reader<'a> {
     }
 
     // After the mark: a sign or none, then digits.
-    pub(crate) fn exponent(&self, from: usize, p: Parsed) -> Found
-        requires { (from ≤ length self.now.text.now) × Ready self.now.text.now p }
-        ensures { Finds self.now.text.now result
-            (reading (sep_of self.now.skip) self.now.radix (drop from self.now.text.now)
-            (at exponentPart nothing (written_of self.now.text.now p))) }
+    pub(crate) fn exponent(self, text: &[u8], from: usize, p: Parsed) -> Found
+        requires { (from ≤ length text.now) × Ready text.now p }
+        ensures { Finds text.now result
+            (reading (sep_of self.skip) self.radix (drop from text.now)
+            (at exponentPart nothing (written_of text.now p))) }
     {
-        match self.text.get(from) {
-            Some(b'+') => self.exp_run(from + 1, Parsed { down: false, ..p }),
-            Some(b'-') => self.exp_run(from + 1, Parsed { down: true, ..p }),
-            _ => self.exp_run(from, p),
+        match text.get(from) {
+            Some(b'+') => self.exp_run(text, from + 1, Parsed { down: false, ..p }),
+            Some(b'-') => self.exp_run(text, from + 1, Parsed { down: true, ..p }),
+            _ => self.exp_run(text, from, p),
         }
     }
 }

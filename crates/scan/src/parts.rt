@@ -14,31 +14,31 @@ use grammar::byte::Class;
 use grammar::{byte, refusal};
 use run::Run;
 
-impl<'a> Reader<'a> {
+impl Reader {
     // After a run of digits, by the class of the byte in front of which it ended; the text goes on at `next`.
-    fn after_run(&self, class: Class, next: usize, p: Parsed) -> Found
-        requires { (next ≤ length self.now.text.now) × Ready self.now.text.now p }
-        ensures { Finds self.now.text.now result
-            (after_run class self.now.skip self.now.radix (drop next self.now.text.now) (written_of self.now.text.now p)) }
+    fn after_run(self, text: &[u8], class: Class, next: usize, p: Parsed) -> Found
+        requires { (next ≤ length text.now) × Ready text.now p }
+        ensures { Finds text.now result
+            (after_run class self.skip self.radix (drop next text.now) (written_of text.now p)) }
     {
         match class {
             Class::Sign => Found::Refused(refusal::MISPLACED_SIGN),
             Class::Point => Found::Refused(refusal::TOO_MANY_POINTS),
             // the literal reader finds a `_` misplaced, the plain reader no digit
             Class::Underscore if self.skip => Found::Refused(refusal::MISPLACED_UNDERSCORE),
-            Class::Mark(base) => self.exponent(next, Parsed { base, ..p }),
+            Class::Mark(base) => self.exponent(text, next, Parsed { base, ..p }),
             Class::Underscore | Class::Other => Found::Refused(refusal::INVALID_DIGIT),
         }
     }
 
     // After the point.
-    fn fraction(&self, from: usize, neg: bool, whole: Run) -> Found
-        requires { (from ≤ length self.now.text.now) × Behind self.now.text.now whole from }
-        ensures { Finds self.now.text.now result
-            (reading (sep_of self.now.skip) self.now.radix (drop from self.now.text.now)
-            (at fractionPart nothing (whole_of self.now.text.now neg whole))) }
+    fn fraction(self, text: &[u8], from: usize, neg: bool, whole: Run) -> Found
+        requires { (from ≤ length text.now) × Behind text.now whole from }
+        ensures { Finds text.now result
+            (reading (sep_of self.skip) self.radix (drop from text.now)
+            (at fractionPart nothing (whole_of text.now neg whole))) }
     {
-        let run = run::run_at(self.text, from, self.radix, self.skip);
+        let run = run::run_at(text, from, self.radix, self.skip);
         let p = Parsed {
             neg,
             whole,
@@ -47,19 +47,19 @@ impl<'a> Reader<'a> {
             down: false,
             exp: 0,
         };
-        let Some(b) = self.text.get(run.to) else {
+        let Some(b) = text.get(run.to) else {
             return ends::unmarked(p);
         };
-        self.after_run(byte::class_of(*b, self.radix), run.to + 1, p)
+        self.after_run(text, byte::class_of(*b, self.radix), run.to + 1, p)
     }
 
     // The number's digits, once its sign was read.
-    pub(crate) fn whole(&self, from: usize, neg: bool) -> Found
-        requires { from ≤ length self.now.text.now }
-        ensures { Finds self.now.text.now result
-            (reading (sep_of self.now.skip) self.now.radix (drop from self.now.text.now) (at wholePart signSeen (blank neg))) }
+    pub(crate) fn whole(self, text: &[u8], from: usize, neg: bool) -> Found
+        requires { from ≤ length text.now }
+        ensures { Finds text.now result
+            (reading (sep_of self.skip) self.radix (drop from text.now) (at wholePart signSeen (blank neg))) }
     {
-        let run = run::run_at(self.text, from, self.radix, self.skip);
+        let run = run::run_at(text, from, self.radix, self.skip);
         let p = Parsed {
             neg,
             whole: run,
@@ -72,12 +72,12 @@ impl<'a> Reader<'a> {
             down: false,
             exp: 0,
         };
-        let Some(b) = self.text.get(run.to) else {
+        let Some(b) = text.get(run.to) else {
             return ends::unmarked(p);
         };
         if *b == b'.' {
-            return self.fraction(run.to + 1, neg, run);
+            return self.fraction(text, run.to + 1, neg, run);
         }
-        self.after_run(byte::class_of(*b, self.radix), run.to + 1, p)
+        self.after_run(text, byte::class_of(*b, self.radix), run.to + 1, p)
     }
 }

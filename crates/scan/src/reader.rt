@@ -1,11 +1,10 @@
-// A text with how it is read. The scanner's steps are its methods (parts.rt, mark.rt).
+// How a text is read. The scanner's steps are its methods (parts.rt, mark.rt).
 ghost use Rattle.std.specs.Prelude.{◌≡◌, true};
 ghost use Rattle.grammar.specs.Meaning.{is_radix};
 
-// A text in a radix, in which `_` after a digit is skipped or not.
+// In a radix, with a `_` after a digit skipped or not. The text stands beside it: in it, the readers are slower.
 #[derive(Clone, Copy)]
-pub(crate) struct Reader<'a> {
-    pub(crate) text: &'a [u8],
+pub(crate) struct Reader {
     pub(crate) radix: u32,
     pub(crate) skip: bool,
     ghost legal: { is_radix radix ≡ true },

@@ -7,32 +7,32 @@ use Rattle.scan.proofs.reader.Reader.exp_run.Goals as goal
 
 pub loop-b-init : goal.loop-b-init
 loop-b-init c =
-    let s = c.args.self.now in
-    (c.requires.1.small, exp-begin s.text.now c.args.from s.skip s.radix c.args.p)
+    let s = c.args.self in
+    (c.requires.1.small, exp-begin c.args.text.now c.args.from s.skip s.radix c.args.p)
 
 pub returns-in-Refuse : goal.returns-in-Refuse
 unfolding written_of
 returns-in-Refuse c =
-    let s = c.args.self.now in
+    let s = c.args.self in
     let l = c.loop-b in
-    exp-stop s.skip s.radix _ l.b-index (written_of s.text.now c.args.p) l.seen l.e l.invariant.1 s.text.now c.loop-b-test.true
+    exp-stop s.skip s.radix _ l.b-index (written_of c.args.text.now c.args.p) l.seen l.e l.invariant.1 c.args.text.now c.loop-b-test.true
     c.exp_step.ensures c.in-Refuse.is
 
 pub loop-b-preserved : goal.loop-b-preserved
 unfolding written_of
 loop-b-preserved c =
-    let s = c.args.self.now in
+    let s = c.args.self in
     let l = c.loop-b in
     let t = c.exp_step.ensures in
     let on = c.in-On.is in (
       exp-bound s.skip s.radix l.seen c.args.p.down l.e _ l.invariant.0 (sym on ∙ t),
-      exp-next s.skip s.radix _ l.b-index (written_of s.text.now c.args.p) l.seen l.e l.invariant.1 c.loop-b-test.true t on,
+      exp-next s.skip s.radix _ l.b-index (written_of c.args.text.now c.args.p) l.seen l.e l.invariant.1 c.loop-b-test.true t on,
     )
 
 pub returns : goal.returns
 returns c =
-    let s = c.args.self.now in
+    let s = c.args.self in
     let l = c.loop-b in
-    let t = s.text.now in
+    let t = c.args.text.now in
     finds-exp-end t c.args.p c.requires.1 l.seen l.e l.invariant.0 c.exp_end.ensures
     (exp-over s.skip s.radix _ l.b-index (written_of t c.args.p) l.seen l.e l.invariant.1 c.loop-b-test.false)

@@ -12,5 +12,5 @@ use Rattle.scan.proofs.reader.Reader.exp_run.Given as goal
 abbrev pub invariant-loop-b : goal.invariant-loop-b
 invariant-loop-b l =
     (l.e ≤ 2147483648)
-    × (reading (sep_of l.self.skip) l.self.radix (drop l.b-index l.b-items) (exp_at l.seen (written_of l.self.text.now l.p) l.e)
-    ≡ reading (sep_of l.self.skip) l.self.radix (drop l.from l.self.text.now) (at exponent sign (written_of l.self.text.now l.p)))
+    × (reading (sep_of l.self.skip) l.self.radix (drop l.b-index l.b-items) (exp_at l.seen (written_of l.text l.p) l.e)
+    ≡ reading (sep_of l.self.skip) l.self.radix (drop l.from l.text) (at exponent sign (written_of l.text l.p)))

@@ -8,23 +8,23 @@ use Rattle.scan.proofs.reader.Reader.exponent.Goals as goal
 
 pub returns-in-Some-eq43 : goal.returns-in-Some-eq43
 returns-in-Some-eq43 c =
-    let s = c.args.self.now in
+    let s = c.args.self in
     let w = c.in-Some-eq43 in
     let l = w.ensures.lookup in
-    exp-plus s.text.now c.args.from s.skip s.radix c.args.p (inside l.0) (sym (byte-at s.text.now c.args.from l.0 l.1) ∙ w.field-0-test) refl c.exp_run.ensures
+    exp-plus c.args.text.now c.args.from s.skip s.radix c.args.p (inside l.0) (sym (byte-at c.args.text.now c.args.from l.0 l.1) ∙ w.field-0-test) refl c.exp_run.ensures
 
 pub returns-in-Some-eq45 : goal.returns-in-Some-eq45
 returns-in-Some-eq45 c =
-    let s = c.args.self.now in
+    let s = c.args.self in
     let w = c.in-Some-eq45 in
     let l = w.ensures.lookup in
-    exp-minus s.text.now c.args.from s.skip s.radix c.args.p (inside l.0) (sym (byte-at s.text.now c.args.from l.0 l.1) ∙ w.field-0-test) refl
+    exp-minus c.args.text.now c.args.from s.skip s.radix c.args.p (inside l.0) (sym (byte-at c.args.text.now c.args.from l.0 l.1) ∙ w.field-0-test) refl
     c.exp_run-in-Some-eq45.ensures
 
 pub returns-in_default : goal.returns-in_default
 returns-in_default c =
-    let s = c.args.self.now in
-    let t = s.text.now in
+    let s = c.args.self in
+    let t = c.args.text.now in
     let from = c.args.from in
     let l = c.get.ensures.lookup in
     elim c.in_default.branch [

@@ -9,16 +9,16 @@ use Rattle.scan.proofs.reader.Reader.fraction.Goals as goal
 pub after_run-requires : goal.after_run-requires
 after_run-requires c =
     let a = c.args in
-    let s = a.self.now in (
+    let s = a.self in (
       omega (arith, inside c.in-Some.ensures.lookup.0),
-      frac-ready s.text.now a.from s.radix s.skip c.run_at-run.ensures c.requires.0 s.legal a.neg a.whole c.requires.1,
+      frac-ready c.args.text.now a.from s.radix s.skip c.run_at-run.ensures c.requires.0 s.legal a.neg a.whole c.requires.1,
     )
 
 pub returns-in_default : goal.returns-in_default
 returns-in_default c =
     let a = c.args in
-    let s = a.self.now in
-    let t = s.text.now in
+    let s = a.self in
+    let t = c.args.text.now in
     let run = c.run_at-run.ensures in
     part_end t a.from s.radix s.skip s.legal true (whole_of t a.neg a.whole)
     (frac_parsed a.neg a.whole c.run_at-run.result)
@@ -28,8 +28,8 @@ returns-in_default c =
 pub returns : goal.returns
 returns c =
     let a = c.args in
-    let s = a.self.now in
-    let t = s.text.now in
+    let s = a.self in
+    let t = c.args.text.now in
     let run = c.run_at-run.ensures in
     let l = c.in-Some.ensures.lookup in
     let b = byte-at t c.run_at-run.result.to l.0 l.1 in

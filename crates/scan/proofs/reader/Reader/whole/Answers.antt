@@ -10,8 +10,8 @@ use Rattle.scan.proofs.reader.Reader.whole.Goals as goal
 pub fraction-requires : goal.fraction-requires
 fraction-requires c =
     let a = c.args in
-    let s = a.self.now in
-    let t = s.text.now in
+    let s = a.self in
+    let t = c.args.text.now in
     let run = c.run_at-run.ensures in
     let w = c.in-Some in (
       omega (arith, inside w.ensures.lookup.0),
@@ -28,14 +28,14 @@ fraction-requires c =
 pub after_run-requires : goal.after_run-requires
 after_run-requires c =
     let a = c.args in
-    let s = a.self.now in
-    (omega (arith, inside c.in-Some.ensures.lookup.0), whole_ready s.text.now a.from s.radix s.skip c.run_at-run.ensures c.requires s.legal a.neg)
+    let s = a.self in
+    (omega (arith, inside c.in-Some.ensures.lookup.0), whole_ready c.args.text.now a.from s.radix s.skip c.run_at-run.ensures c.requires s.legal a.neg)
 
 pub returns-in_default : goal.returns-in_default
 returns-in_default c =
     let a = c.args in
-    let s = a.self.now in
-    let t = s.text.now in
+    let s = a.self in
+    let t = c.args.text.now in
     let run = c.run_at-run.ensures in
     part_end t a.from s.radix s.skip s.legal false (blank a.neg)
     (whole_parsed a.neg c.run_at-run.result)
@@ -45,8 +45,8 @@ returns-in_default c =
 pub returns-then-b-eq46 : goal.returns-then-b-eq46
 returns-then-b-eq46 c =
     let a = c.args in
-    let s = a.self.now in
-    let t = s.text.now in
+    let s = a.self in
+    let t = c.args.text.now in
     let run = c.run_at-run.ensures in
     let w = c.in-Some in
     part-point t a.from s.radix s.skip s.legal (blank a.neg)
@@ -57,8 +57,8 @@ returns-then-b-eq46 c =
 pub returns : goal.returns
 returns c =
     let a = c.args in
-    let s = a.self.now in
-    let t = s.text.now in
+    let s = a.self in
+    let t = c.args.text.now in
     let run = c.run_at-run.ensures in
     let l = c.in-Some.ensures.lookup in
     let b = byte-at t c.run_at-run.result.to l.0 l.1 in
