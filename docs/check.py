@@ -20,7 +20,7 @@ INDEX = (ROOT / "docs/PROMISES.md").read_text()
 PAGES = {page.stem: page.read_text() for page in sorted((ROOT / "docs/promises").glob("*.md"))}
 FUNCTION = re.compile(r'^pub (?:extern "C" )?fn (\w+)(.*?)(?:^| )\{$', re.M | re.S)
 CLAUSE = re.compile(r"\b(?:requires|ensures)\b[^{]*\{")
-INNER = re.compile(r"^pub\(crate\) fn (\w+)(.*?)(?:^| )\{$", re.M | re.S)
+INNER = re.compile(r"^ *pub\(crate\) fn (\w+)(.*?)(?:^| )\{$", re.M | re.S)
 PATH = re.compile(r"(?<![\w/.])(?:(?:crates|oracle|docs|include|tests|bindings|specs|proofs|must-fail)/[\w./-]*\w|\w+\.antt)")
 DECLARED = re.compile(r"^\s*(?:(?:pub|unfoldable|abbrev|opaque|record|data) +)*([^\s:]+)", re.M)
 SIGNS = (("S(?=[A-Z])", "Signed", "Unsigned"), ("(?<=_)S(?![a-zA-Z])", "signed", "unsigned"), ("(?:^|(?<=-))S(?=-)", "signed", "unsigned"))
@@ -99,12 +99,12 @@ def functions(crate, row):
 
 
 def inner():
-    """The table of inner functions: a `pub(crate) fn` with a `requires`, and the other files of its crate that call it."""
+    """The table of inner functions: a `pub(crate) fn`, or method, with a `requires`, and the other files of its crate that call it."""
     own, told = {}, {}
     for crate in sorted(lib.parent for lib in CRATES.glob("*/src/lib.rt")):
         files = {file.stem: re.sub(r"//.*", "", file.read_text()) for file in crate.glob("*.rt")}
         for module, name in [(module, name) for module in files for name, contract in INNER.findall(files[module]) if "requires" in contract]:
-            own[f"{crate.parent.name}::{module}::{name}"] = sorted(other for other in files if re.search(rf"\b{module}::{name}\(", files[other]))
+            own[f"{crate.parent.name}::{module}::{name}"] = sorted(other for other in files if re.search(rf"\b{module}::{name}\(|\.{name}\(", files[other]) and other != module)
     for module, names, callers in re.findall(r"^\| `(\w+::\w+)` \|(.*)\|(.*)\|$", INDEX.split("Other inner functions")[1], re.M):
         told |= {f"{module}::{name}": sorted(spans(callers)) for name in spans(names)}
     for full in sorted(own | told):
