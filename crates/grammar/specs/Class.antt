@@ -1,8 +1,7 @@
 -- The classes of bytes as the code tells them apart, and that a digit has none of them. Assumes nothing.
-use Rattle.std.specs.Prelude.{◌≡◌, refl, Bool, true, false, cond, ◌||◌, not, ◌⊎◌, Option, Some, None, ℕ, ◌-◌, ◌≤◌, ◌<◌, eqb}
-use Rattle.std.proofs.Math.Path.{sym}
-use Rattle.std.proofs.Common.{◌∙◌, inl, inr, arith}
-use Rattle.std.proofs.Math.Bool.{or-false, and-false}
+use Rattle.std.specs.Prelude.{◌≡◌, refl, Bool, true, false, cond, ◌||◌, ◌⊎◌, Option, Some, None, ℕ, ◌-◌, ◌≤◌, ◌<◌, eqb}
+use Rattle.std.proofs.Common.{inl, inr, arith}
+use Rattle.std.proofs.Math.Bool.{and-false}
 use Rattle.std.proofs.lemmas.Bool.{false≢true}
 use Rattle.std.proofs.Math.Decide.{dec_le}
 use borrow.Author.Tests.{le-leb, lt-leb, ne_eqb, ltb-true, eqb-true}

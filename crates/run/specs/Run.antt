@@ -41,7 +41,7 @@ module _ (skip : Bool) (radix : ℕ) where
   len-some [] {n = n} h e g q = absurd (omega arith)
   len-some (b ∷ t) {n = n} h e g q =
       let r : n ≡ run_more skip radix t =
-          q ∙ ap (λ (l : List ℕ). length (take_while (in_run skip radix) l)) (take_rest (b ∷ t) 1) ∙ more-taken skip radix t in
+      q ∙ ap (λ (l : List ℕ). length (take_while (in_run skip radix) l)) (take_rest (b ∷ t) 1) ∙ more-taken skip radix t in
       rw (sym e ∙ g) (omega arith)
 
   pub len-none : (t : List ℕ) {d : Bool} → d ≡ is_digit radix (get_or t 0 0) → d ≡ false → 0 ≡ run_len skip radix t
