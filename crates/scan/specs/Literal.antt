@@ -11,7 +11,7 @@ use Rattle.std.proofs.lemmas.Bool.{false≢true}
 use mathlib.Core.List.{List, [], ◌∷◌}
 use mir.Val.{bool_byte}
 use Rattle.std.proofs.Math.ListN.{drop}
-use borrow.Author.Tests.{eq-eqb, ne_eqb}
+use borrow.Author.Tests.{ne_eqb}
 use Rattle.laws.specs.Lists.{no_length}
 use Rattle.format.specs.Meaning.{Sign, signed, unsigned}
 use Rattle.grammar.specs.Meaning.{prefix_radix, drop_underscores, after_prefix, literal_minus}
@@ -84,9 +84,6 @@ past_underscores u = ap (λ (k : ℕ). drop k u) (length-prefix_len (λ (b : ℕ
 
 -- ---- where the digits start
 module _ (t : List ℕ) {radix : ℕ} (e : radix ≡ prefix_radix t) where
-  pub digits-bare : radix ≡ 10 → t ≡ after_prefix t
-  digits-bare h = sym (ap (λ (g : Bool). cond g t (drop_underscores (drop 2 t))) (eq-eqb (prefix_radix t) 10 (sym e ∙ h)))
-
   pub digits-room : (radix ≡ 10 → ⊥) → 2 ≤ length t
   digits-room h = prefix-long t (λ z. h (e ∙ z))
 
