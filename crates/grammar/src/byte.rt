@@ -45,7 +45,7 @@ pub fn is_digit(b: u8, radix: u32) -> bool
 }
 
 // What a mark of the radix scales by: `p` and `P` by 2, the others by the radix.
-#[tactic(auto, using(laws::specs::Rules::tests), unfolding(crate::specs::Class::mark_base, crate::specs::Meaning::is_mark))]
+#[tactic(auto, unfolding(crate::specs::Class::mark_base, crate::specs::Meaning::is_mark))]
 fn mark_base(b: u8, radix: u32) -> Option<u32>
     ensures { result ≡ mark_base radix b }
 {
@@ -58,7 +58,7 @@ fn mark_base(b: u8, radix: u32) -> Option<u32>
 }
 
 // The class of a byte that is no digit of the run before it.
-#[tactic(auto, using(laws::specs::Rules::tests), unfolding(crate::specs::Class::class_of, crate::specs::Class::mark_base))]
+#[tactic(auto, unfolding(crate::specs::Class::class_of, crate::specs::Class::mark_base))]
 pub fn class_of(b: u8, radix: u32) -> Class
     ensures { result ≡ class_of radix b }
 {

@@ -21,7 +21,7 @@ fn minus(text: &[u8], signed: bool) -> bool
 }
 
 // The radix that the prefix in front of a text says: 10 where there is none.
-#[tactic(auto, using(laws::specs::Rules::tests), unfolding(grammar::specs::Meaning::prefix_radix, grammar::specs::Meaning::prefix_mark))]
+#[tactic(auto, unfolding(grammar::specs::Meaning::prefix_radix, grammar::specs::Meaning::prefix_mark))]
 fn prefix_radix(text: &[u8]) -> u32
     ensures { result ≡ prefix_radix text.now }
 {
