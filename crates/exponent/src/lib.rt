@@ -6,15 +6,12 @@ ghost use Rattle.std.specs.Prelude.{◌≡◌, ◌≤◌};
 ghost use Rattle.grammar.specs.Meaning.{exp_limit};
 ghost use Rattle.exponent.specs.Exponent.{exp_digit, exp_other, exp_step_of};
 
+use format::Refusal;
+use grammar::byte;
 use grammar::byte::Class;
-use grammar::{byte, refusal};
 
 // A step of the exponent: what it is after the byte, or a refusal.
-#[derive(Clone, Copy)]
-pub enum ExpStep {
-    On(u64),
-    Refuse(u32),
-}
+pub type ExpStep = Result<u64, Refusal>;
 
 // The largest magnitude of an exponent, an i32's.
 fn exp_limit(down: bool) -> u64
@@ -23,31 +20,32 @@ fn exp_limit(down: bool) -> u64
     if down { 2147483648 } else { 2147483647 }
 }
 
-#[tactic(auto, unfolding(crate::specs::Exponent::exp_digit))]
+#[tactic(auto, unfolding(crate::specs::Exponent::exp_digit, format::specs::Meaning::named))]
 fn exp_digit(down: bool, e: u64, d: u32) -> ExpStep
     requires { e ≤ 2147483648 }
     ensures { result ≡ exp_digit down e d }
 {
     let next = e * 10 + d as u64;
     if next <= exp_limit(down) {
-        ExpStep::On(next)
+        Ok(next)
     } else {
-        ExpStep::Refuse(refusal::EXP_OVERFLOW)
+        Err(Refusal::ExpOverflow)
     }
 }
 
-#[tactic(auto, unfolding(crate::specs::Exponent::exp_other, crate::specs::Exponent::exp_under))]
+#[tactic(
+    auto,
+    unfolding(crate::specs::Exponent::exp_other, crate::specs::Exponent::exp_under, format::specs::Meaning::named)
+)]
 fn exp_other(class: Class, skip: bool, seen: bool, e: u64) -> ExpStep
     ensures { result ≡ exp_other class skip seen e }
 {
     match class {
-        Class::Sign => ExpStep::Refuse(refusal::MISPLACED_SIGN),
-        Class::Mark(_) => ExpStep::Refuse(refusal::TOO_MANY_EXP),
-        Class::Underscore if skip && seen => ExpStep::On(e),
-        Class::Underscore if skip => ExpStep::Refuse(refusal::MISPLACED_UNDERSCORE),
-        Class::Point | Class::Underscore | Class::Other => ExpStep::Refuse(
-            refusal::EXP_INVALID_DIGIT,
-        ),
+        Class::Sign => Err(Refusal::MisplacedSign),
+        Class::Mark(_) => Err(Refusal::TooManyExp),
+        Class::Underscore if skip && seen => Ok(e),
+        Class::Underscore if skip => Err(Refusal::MisplacedUnderscore),
+        Class::Point | Class::Underscore | Class::Other => Err(Refusal::ExpInvalidDigit),
     }
 }
 

@@ -1,11 +1,10 @@
 // What a text means (docs/GRAMMAR.md): the radixes, the longest text, the
-// classes of bytes, and the numbers of the refusals.
+// classes of bytes.
 #![tactic(auto)]
 
 ghost use Rattle.grammar.specs.Promise.{IsRadix};
 
 pub mod byte;
-pub mod refusal;
 
 // The longest text that is read.
 pub const TEXT_LIMIT: usize = 4096;
