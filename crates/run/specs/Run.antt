@@ -1,10 +1,10 @@
--- The run of digits at a place of a text, and how many bytes it has. Assumes nothing.
-use Rattle.std.specs.Prelude.{◌≡◌, refl, Bool, true, false, cond, List, [], ◌∷◌, ℕ, suc, ◌+◌, ◌-◌, ◌≤◌, ◌<◌, length, take, drop, get_or, take_while}
-use Rattle.std.specs.List.{prefix_len}
-use Rattle.std.proofs.Common.{sym, ◌∙◌, ap, length-drop}
+-- The run of digits at a place of a text, and the loop that finds its end. Assumes nothing.
+use Rattle.std.specs.Prelude.{◌≡◌, refl, Bool, true, false, cond, List, [], ◌∷◌, ℕ, suc, ◌+◌, ◌-◌, ◌≤◌, ◌<◌, take, drop, get_or}
+use Rattle.std.proofs.Common.{sym, ◌∙◌, add-one, drop_of_length-le}
+use Rattle.std.proofs.Math.Path.{ap}
 use native.Mathlib.Omega.{arith}
-use Rattle.std.proofs.lemmas.List.{take_rest}
-use Rattle.std.proofs.lemmas.List.Folds.{length-prefix_len}
+use Rattle.std.proofs.Math.ListN.{length}
+use Rattle.std.proofs.Math.Seq.{drop-cons}
 use Rattle.digits.specs.Meaning.{digits_of}
 use Rattle.grammar.specs.Automaton.{is_digit}
 use Rattle.laws.specs.Lists.{part}
@@ -20,42 +20,13 @@ run_at t from radix skip =
       digits = length (digits_of (part t from (from + run_len skip radix (drop from t))));
     }
 
--- ---- the run in front of a text, as the code finds it
--- what goes on in it is its longest part of which each byte does
-pub more-taken : (skip : Bool) (radix : ℕ) (t : List ℕ) → length (take_while (in_run skip radix) t) ≡ run_more skip radix t
+-- ---- the loop over a run
+more-none : (skip : Bool) (radix : ℕ) → run_more skip radix [] ≡ 0
 unfolding run_more
-more-taken skip radix t = length-prefix_len (in_run skip radix) t ∙ go t
-  where
-    step : (g : Bool) (m n : ℕ) → m ≡ n → cond g (1 + m) 0 ≡ cond g (suc n) 0
-    step true m n e = omega arith
-    step false m n e = refl
-
-    go : (t : List ℕ) → prefix_len (in_run skip radix) t ≡ run_more skip radix t
-    go [] = refl
-    go (b ∷ t) = step (in_run skip radix b) (prefix_len (in_run skip radix) t) (run_more skip radix t) (go t)
-
-module _ (skip : Bool) (radix : ℕ) where
-  pub len-some : (t : List ℕ) {d : Bool} {n : ℕ} → 1 ≤ length t → d ≡ is_digit radix (get_or t 0 0) → d ≡ true
-      → n ≡ length (take_while (in_run skip radix) (take (length t - 1) (drop 1 t))) → 1 + n ≡ run_len skip radix t
-  unfolding run_len
-  len-some [] {n = n} h e g q = absurd (omega arith)
-  len-some (b ∷ t) {n = n} h e g q =
-      let r : n ≡ run_more skip radix t =
-      q ∙ ap (λ (l : List ℕ). length (take_while (in_run skip radix) l)) (take_rest (b ∷ t) 1) ∙ more-taken skip radix t in
-      rw (sym e ∙ g) (omega arith)
-
-  pub len-none : (t : List ℕ) {d : Bool} → d ≡ is_digit radix (get_or t 0 0) → d ≡ false → 0 ≡ run_len skip radix t
-  unfolding run_len
-  len-none [] e g = refl
-  len-none (b ∷ t) e g = rw (sym e ∙ g)
-
-  pub len-past : (t : List ℕ) → length t < 1 → 0 ≡ run_len skip radix t
-  unfolding run_len
-  len-past [] h = refl
-  len-past (b ∷ t) h = absurd (omega arith)
+more-none skip radix = refl
 
 -- a run is no longer than what there is
-more-fits : (skip : Bool) (radix : ℕ) (t : List ℕ) → run_more skip radix t ≤ length t
+pub more-fits : (skip : Bool) (radix : ℕ) (t : List ℕ) → run_more skip radix t ≤ length t
 unfolding run_more
 more-fits skip radix [] = omega arith
 more-fits skip radix (b ∷ t) = go (in_run skip radix b) (more-fits skip radix t)
@@ -64,6 +35,68 @@ more-fits skip radix (b ∷ t) = go (in_run skip radix b) (more-fits skip radix 
     go true h = omega arith
     go false h = omega arith
 
+module _ (skip : Bool) (radix : ℕ) (t : List ℕ) (i : ℕ) where
+  more_yes : i < length t → in_run skip radix (get_or t i 0) ≡ true → run_more skip radix (drop i t) ≡ suc (run_more skip radix (drop (i + 1) t))
+  unfolding run_more
+  more_yes h e = rw (add-one, drop-cons t i 0 h, e)
+
+  more_no : i < length t → in_run skip radix (get_or t i 0) ≡ false → run_more skip radix (drop i t) ≡ 0
+  unfolding run_more
+  more_no h e = rw (drop-cons t i 0 h, e)
+
+  pub run-next : {w : ℕ} {g : Bool} → i < length t → g ≡ in_run skip radix (get_or t i 0) → g ≡ true → i + run_more skip radix (drop i t) ≡ w
+      → i + 1 + run_more skip radix (drop (i + 1) t) ≡ w
+  run-next h e g inv = omega (arith, more_yes h (sym e ∙ g))
+
+  pub run-stop : {w : ℕ} {g : Bool} → i < length t → g ≡ in_run skip radix (get_or t i 0) → g ≡ false → i + run_more skip radix (drop i t) ≡ w → i ≡ w
+  run-stop h e g inv = omega (arith, more_no h (sym e ∙ g))
+
+  pub run-over : {w : ℕ} → length t ≤ i → i + run_more skip radix (drop i t) ≡ w → i ≡ w
+  run-over h inv =
+      let none : run_more skip radix (drop i t) ≡ 0 = ap (run_more skip radix) (drop_of_length-le t h) ∙ more-none skip radix in
+      omega arith
+
+-- ---- the run at a place
+module _ (t : List ℕ) (from radix : ℕ) (skip : Bool) where
+  len-some : from < length t → is_digit radix (get_or t from 0) ≡ true → run_len skip radix (drop from t) ≡ suc (run_more skip radix (drop (from + 1) t))
+  unfolding run_len
+  len-some h e = rw (add-one, drop-cons t from 0 h, e)
+
+  len-none : from < length t → is_digit radix (get_or t from 0) ≡ false → run_len skip radix (drop from t) ≡ 0
+  unfolding run_len
+  len-none h e = rw (drop-cons t from 0 h, e)
+
+  len-past : length t ≤ from → run_len skip radix (drop from t) ≡ 0
+  unfolding run_len
+  len-past h = rw (drop_of_length-le t h)
+
+  -- the code's record is the run
+  run_is : (to n : ℕ) → to ≡ from + run_len skip radix (drop from t) → n ≡ length (digits_of (part t from to))
+      → ◌≡◌ {A = Run} (record { from = from; to = to; digits = n }) (run_at t from radix skip)
+  unfolding run_at
+  run_is to n e q =
+      ap (λ (k : ℕ). record { from = from; to = to; digits = k }) q
+      ∙ ap (λ (k : ℕ). record { from = from; to = k; digits = length (digits_of (part t from k)) }) e
+
+  empty-run : run_len skip radix (drop from t) ≡ 0 → ◌≡◌ {A = Run} (record { from = from; to = from; digits = 0 }) (run_at t from radix skip)
+  unfolding digits_of
+  empty-run e =
+      let z : from - from ≡ 0 = omega arith in
+      run_is from 0 (omega (arith, e)) (sym (ap (λ (k : ℕ). length (digits_of (take k (drop from t)))) z))
+
+  pub run-some :
+      {to n : ℕ} {d : Bool} → from < length t → d ≡ is_digit radix (get_or t from 0) → d ≡ true → to ≡ from + 1 + run_more skip radix (drop (from + 1) t) →
+      n ≡ length (digits_of (part t from to)) → ◌≡◌ {A = Run} (record { from = from; to = to; digits = n }) (run_at t from radix skip)
+  run-some {to} {n} h e g q c = run_is to n (omega (arith, len-some h (sym e ∙ g))) c
+
+  pub run_none : {d : Bool} → from < length t → d ≡ is_digit radix (get_or t from 0) → d ≡ false
+      → ◌≡◌ {A = Run} (record { from = from; to = from; digits = 0 }) (run_at t from radix skip)
+  run_none h e g = empty-run (len-none h (sym e ∙ g))
+
+  pub run_past : length t ≤ from → ◌≡◌ {A = Run} (record { from = from; to = from; digits = 0 }) (run_at t from radix skip)
+  run_past h = empty-run (len-past h)
+
+-- a run is no longer than what there is
 pub len-fits : (skip : Bool) (radix : ℕ) (t : List ℕ) → run_len skip radix t ≤ length t
 unfolding run_len
 len-fits skip radix [] = omega arith
@@ -72,18 +105,3 @@ len-fits skip radix (b ∷ t) = go (is_digit radix b)
     go : (d : Bool) → cond d (suc (run_more skip radix t)) 0 ≤ length (b ∷ t)
     go true = omega (arith, more-fits skip radix t)
     go false = omega arith
-
--- ---- the run at a place, n how many bytes the code finds of it there
-module _ (t : List ℕ) (from radix : ℕ) (skip : Bool) {n : ℕ} (e : n ≡ run_len skip radix (take (length t - from) (drop from t))) where
-  here : n ≡ run_len skip radix (drop from t)
-  here = e ∙ ap (run_len skip radix) (take_rest t from)
-
-  pub run-fits : from ≤ length t → from + n ≤ length t
-  run-fits h = omega (arith, here, len-fits skip radix (drop from t), length-drop from t)
-
-  pub run-is : {k : ℕ} → k ≡ length (digits_of (part t from (from + n)))
-      → ◌≡◌ {A = Run} (record { from = from; to = from + n; digits = k }) (run_at t from radix skip)
-  unfolding run_at
-  run-is q =
-      ap (λ (k : ℕ). record { from = from; to = from + n; digits = k }) q
-      ∙ ap (λ (m : ℕ). record { from = from; to = from + m; digits = length (digits_of (part t from (from + m))) }) here

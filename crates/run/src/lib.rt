@@ -2,8 +2,8 @@
 // which it ends. An inner function of the scanner.
 #![tactic(auto)]
 
-ghost use Rattle.std.specs.Prelude.{◌≡◌, ◌≤◌, length, take_while};
-ghost use Rattle.grammar.specs.Run.{in_run, run_len};
+ghost use Rattle.std.specs.Prelude.{◌≡◌, ◌+◌, ◌≤◌, length, drop};
+ghost use Rattle.grammar.specs.Run.{in_run, run_more};
 ghost use Rattle.run.specs.Run.{run_at};
 
 use grammar::byte;
@@ -23,21 +23,17 @@ fn in_run(b: u8, radix: u32, skip: bool) -> bool
     byte::is_digit(b, radix) || skip && b == b'_'
 }
 
-// How many bytes of a text go on in a run.
-fn run_more(text: &[u8], radix: u32, skip: bool) -> usize
-    ensures { result ≡ length (take_while (in_run skip radix) text.now) }
+// The end of a run whose first digit stands before `from`.
+fn run_end(text: &[u8], from: usize, radix: u32, skip: bool) -> usize
+    requires { from ≤ length text.now }
+    ensures { result ≡ from + run_more skip radix (drop from text.now) }
 {
-    text.iter().take_while(|b| in_run(**b, radix, skip)).count()
-}
-
-// How many bytes the run in front of a text has: it starts with a digit.
-fn run_len(text: &[u8], radix: u32, skip: bool) -> usize
-    ensures { result ≡ run_len skip radix text.now }
-{
-    match text {
-        [first, rest @ ..] if byte::is_digit(*first, radix) => 1 + run_more(rest, radix, skip),
-        _ => 0,
+    for (i, b) in text[from..].iter().enumerate() {
+        if !in_run(*b, radix, skip) {
+            return from + i;
+        }
     }
+    text.len()
 }
 
 // The run at `from`, which has no digits where no digit stands there.
@@ -45,10 +41,19 @@ pub fn run_at(text: &[u8], from: usize, radix: u32, skip: bool) -> Run
     requires { from ≤ length text.now }
     ensures { result ≡ run_at text.now from radix skip }
 {
-    let to = from + run_len(&text[from..], radix, skip);
+    if from < text.len() {
+        if byte::is_digit(text[from], radix) {
+            let to = run_end(text, from + 1, radix, skip);
+            return Run {
+                from,
+                to,
+                digits: digits::len(&text[from..to]),
+            };
+        }
+    }
     Run {
         from,
-        to,
-        digits: digits::len(&text[from..to]),
+        to: from,
+        digits: 0,
     }
 }

@@ -13,7 +13,7 @@ use mir.Val.{bool_byte}
 use Rattle.std.proofs.Math.ListN.{drop}
 use borrow.Author.Tests.{ne_eqb}
 use Rattle.laws.specs.Lists.{no_length}
-use Rattle.format.specs.Meaning.{Sign, signed, unsigned}
+use Rattle.format.specs.Meaning.{Sign, sign_by}
 use Rattle.grammar.specs.Meaning.{prefix_radix, drop_underscores, after_prefix, literal_minus}
 use Rattle.grammar.specs.Meaning.{literal_body, literal_radix, literal_reading, is_radix, blank}
 use Rattle.grammar.specs.Automaton.{literal_scan, at, whole, sign, Skip}
@@ -22,13 +22,8 @@ use Rattle.grammar.specs.Run.{sep_of}
 use Rattle.grammar.specs.Accepted.{prefix-legal}
 use Rattle.grammar.specs.Agrees.{literal-scanned}
 use Rattle.grammar.specs.Literals.{short-prefix}
-use Rattle.scan.specs.Found.{Finds, finds-by}
+use Rattle.scan.specs.Found.{Found, Finds, finds-by}
 use Rattle.scan.specs.declared.literal.Written.{Written as LiteralWritten}
-use Rattle.scan.specs.declared.Found.{Found}
-
-abbrev pub literal_sign : Bool → Sign
-literal_sign true = signed
-literal_sign false = unsigned
 
 abbrev pub start_of : Bool → ℕ
 start_of neg = cond neg 1 0
@@ -39,28 +34,28 @@ pub record FindsLiteral (s : Sign) (t : List ℕ) (r : LiteralWritten) : Type 0 
 
 -- ---- the sign
 module _ (t : List ℕ) (s : Bool) where
-  pub minus-yes : s ≡ true → get_or t 0 0 ≡ 45 → true ≡ literal_minus (literal_sign s) t
-  unfolding literal_minus
+  pub minus-yes : s ≡ true → get_or t 0 0 ≡ 45 → true ≡ literal_minus (sign_by s) t
+  unfolding literal_minus sign_by
   minus-yes h e = rw (h, e)
 
-  pub minus-empty : length t < 1 → false ≡ literal_minus (literal_sign s) t
-  unfolding literal_minus
+  pub minus-empty : length t < 1 → false ≡ literal_minus (sign_by s) t
+  unfolding literal_minus sign_by
   minus-empty h = go s (no_length t (omega arith))
     where
-      go : (s : Bool) → t ≡ [] → false ≡ literal_minus (literal_sign s) t
+      go : (s : Bool) → t ≡ [] → false ≡ literal_minus (sign_by s) t
       go true e = rw e
       go false e = refl
 
-  pub minus-other : (get_or t 0 0 ≡ 45 → ⊥) → false ≡ literal_minus (literal_sign s) t
-  unfolding literal_minus
+  pub minus-other : (get_or t 0 0 ≡ 45 → ⊥) → false ≡ literal_minus (sign_by s) t
+  unfolding literal_minus sign_by
   minus-other h = go s
     where
-      go : (s : Bool) → false ≡ literal_minus (literal_sign s) t
+      go : (s : Bool) → false ≡ literal_minus (sign_by s) t
       go true = sym (ne_eqb (get_or t 0 0) 45 h)
       go false = refl
 
-  pub minus-unsigned : s ≡ false → s ≡ literal_minus (literal_sign s) t
-  unfolding literal_minus
+  pub minus-unsigned : s ≡ false → s ≡ literal_minus (sign_by s) t
+  unfolding literal_minus sign_by
   minus-unsigned h = rw h
 
 -- ---- the prefix: it is 10 where there is no second byte
@@ -108,8 +103,8 @@ module _ (t : List ℕ) {radix : ℕ} (e : radix ≡ prefix_radix t) where
         ∙ sym (ap (λ (g : Bool). cond g t (drop_underscores (drop 2 t))) (ne_eqb (prefix_radix t) 10 (λ z. h (e ∙ z))))
 
 -- ---- the whole literal
-minus-some : (s : Bool) (t : List ℕ) → literal_minus (literal_sign s) t ≡ true → 1 ≤ length t
-unfolding literal_minus
+minus-some : (s : Bool) (t : List ℕ) → literal_minus (sign_by s) t ≡ true → 1 ≤ length t
+unfolding literal_minus sign_by
 minus-some true [] e = absurd (false≢true e)
 minus-some false [] e = absurd (false≢true e)
 minus-some s (b ∷ t) e = omega arith
@@ -118,16 +113,16 @@ pub start-is : (neg : Bool) → bool_byte neg ≡ start_of neg
 start-is true = refl
 start-is false = refl
 
-module _ (s : Bool) (t : List ℕ) {neg : Bool} (m : neg ≡ literal_minus (literal_sign s) t) where
+module _ (s : Bool) (t : List ℕ) {neg : Bool} (m : neg ≡ literal_minus (sign_by s) t) where
   pub start_fits : {k : ℕ} → k ≡ start_of neg → k ≤ length t
-  start_fits q = go (literal_minus (literal_sign s) t) refl (q ∙ ap start_of m)
+  start_fits q = go (literal_minus (sign_by s) t) refl (q ∙ ap start_of m)
     where
-      go : (g : Bool) → literal_minus (literal_sign s) t ≡ g → {k : ℕ} → k ≡ start_of g → k ≤ length t
+      go : (g : Bool) → literal_minus (sign_by s) t ≡ g → {k : ℕ} → k ≡ start_of g → k ≤ length t
       go true e q = omega (arith, minus-some s t e)
       go false e q = omega arith
 
-  body : {k : ℕ} → k ≡ start_of neg → drop k t ≡ literal_body (literal_sign s) t
-  body q = ap (λ (n : ℕ). drop n t) (q ∙ ap start_of m) ∙ pick (literal_minus (literal_sign s) t)
+  body : {k : ℕ} → k ≡ start_of neg → drop k t ≡ literal_body (sign_by s) t
+  body q = ap (λ (n : ℕ). drop n t) (q ∙ ap start_of m) ∙ pick (literal_minus (sign_by s) t)
     where
       pick : (g : Bool) → drop (cond g 1 0) t ≡ cond g (drop 1 t) t
       pick true = refl
@@ -135,10 +130,10 @@ module _ (s : Bool) (t : List ℕ) {neg : Bool} (m : neg ≡ literal_minus (lite
 
   -- the code's body, d where the digits start in it
   module _ {k : ℕ} (q : k ≡ start_of neg) where
-    behind : take (length t - k) (drop k t) ≡ literal_body (literal_sign s) t
+    behind : take (length t - k) (drop k t) ≡ literal_body (sign_by s) t
     behind = take_rest t k ∙ body q
 
-    pub literal-radix : {r : ℕ} → r ≡ prefix_radix (take (length t - k) (drop k t)) → r ≡ literal_radix (literal_sign s) t
+    pub literal-radix : {r : ℕ} → r ≡ prefix_radix (take (length t - k) (drop k t)) → r ≡ literal_radix (sign_by s) t
     literal-radix e = e ∙ ap prefix_radix behind
 
     pub literal-fits : {d : ℕ} → d ≤ length (take (length t - k) (drop k t)) → k + d ≤ length t
@@ -147,14 +142,14 @@ module _ (s : Bool) (t : List ℕ) {neg : Bool} (m : neg ≡ literal_minus (lite
     pub literal-found :
         (d : ℕ) {r : ℕ} {f : Found} → r ≡ prefix_radix (take (length t - k) (drop k t)) →
         drop d (take (length t - k) (drop k t)) ≡ after_prefix (take (length t - k) (drop k t)) →
-        Finds t f (reading (sep_of true) r (drop (k + d) t) (at whole sign (blank neg))) → Finds t f (literal_reading (literal_sign s) t)
+        Finds t f (reading (sep_of true) r (drop (k + d) t) (at whole sign (blank neg))) → Finds t f (literal_reading (sign_by s) t)
     unfolding reading literal_scan
     literal-found d e a f =
         finds-by t
         (ap₂ (λ (r : ℕ) (g : Bool). reading Skip r (drop (k + d) t) (at whole sign (blank g))) (literal-radix e) m
-        ∙ ap (λ (l : List ℕ). reading Skip (literal_radix (literal_sign s) t) l (at whole sign (blank (literal_minus (literal_sign s) t))))
+        ∙ ap (λ (l : List ℕ). reading Skip (literal_radix (sign_by s) t) l (at whole sign (blank (literal_minus (sign_by s) t))))
         (sym (drop-drop d k t) ∙ ap (drop d) (sym (take_rest t k)) ∙ a ∙ ap after_prefix behind)
-        ∙ sym (literal-scanned (literal_sign s) t))
+        ∙ sym (literal-scanned (sign_by s) t))
         f
 
 pub literal-legal : (t : List ℕ) {r : ℕ} → r ≡ prefix_radix t → is_radix r ≡ true

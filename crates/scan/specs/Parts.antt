@@ -21,9 +21,8 @@ use Rattle.grammar.specs.declared.byte.Class.{Class}
 use Rattle.run.specs.Run.{run_at, len-fits}
 use Rattle.run.specs.declared.Run.{Run}
 use Rattle.scan.specs.After.{after_run, Stopped, read-after, read-point}
-use Rattle.scan.specs.Found.{run_digits, written_of, whole_of, unmarked_of, Counted, Ready, Finds, finds-by, finds-unmarked, no-sign-at, no-sign-past}
+use Rattle.scan.specs.Found.{Found, run_digits, written_of, whole_of, unmarked_of, Counted, Ready, Finds, finds-by, finds-unmarked, no-sign-at, no-sign-past}
 use Rattle.scan.specs.declared.Parsed.{Parsed}
-use Rattle.scan.specs.declared.Found.{Found}
 
 -- ---- what stands in front of which a run ends
 either : (a b : Bool) → (a || b) ≡ false → (a ≡ false) × (b ≡ false)

@@ -4,7 +4,7 @@ ghost use Rattle.std.specs.Prelude.{◌≡◌};
 ghost use Rattle.scan.specs.Found.{no_digits, unmarked_of, exp_end_of};
 
 use crate::{Found, Parsed};
-use grammar::refusal;
+use format::Refusal;
 
 #[tactic(auto, unfolding(crate::specs::Found::no_digits))]
 fn no_digits(p: Parsed) -> bool
@@ -19,9 +19,9 @@ pub(crate) fn unmarked(p: Parsed) -> Found
     ensures { result ≡ unmarked_of p }
 {
     if no_digits(p) {
-        return Found::Refused(refusal::NO_DIGITS);
+        return Err(Refusal::NoDigits);
     }
-    Found::Number(p)
+    Ok(p)
 }
 
 // The end of the exponent: a text with no digits is none, nor is a mark with no digit after it.
@@ -30,10 +30,10 @@ pub(crate) fn exp_end(p: Parsed, seen: bool, e: u64) -> Found
     ensures { result ≡ exp_end_of p seen e }
 {
     if no_digits(p) {
-        return Found::Refused(refusal::NO_DIGITS);
+        return Err(Refusal::NoDigits);
     }
     if seen {
-        return Found::Number(Parsed { exp: e, ..p });
+        return Ok(Parsed { exp: e, ..p });
     }
-    Found::Refused(refusal::EXP_NO_DIGITS)
+    Err(Refusal::ExpNoDigits)
 }

@@ -7,6 +7,7 @@ ghost use Rattle.std.specs.Prelude.{◌≡◌, true};
 ghost use Rattle.grammar.specs.Meaning.{plain_reading, is_radix};
 ghost use Rattle.scan.specs.Found.{Finds};
 
+use format::Refusal;
 use reader::Reader;
 use run::Run;
 
@@ -27,11 +28,8 @@ pub struct Parsed {
     pub exp: u64,
 }
 
-#[derive(Clone, Copy)]
-pub enum Found {
-    Number(Parsed),
-    Refused(u32),
-}
+// What the scanner finds.
+pub type Found = Result<Parsed, Refusal>;
 
 // A plain text in a radix.
 pub fn plain(text: &[u8], radix: u32) -> Found

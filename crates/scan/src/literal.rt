@@ -1,7 +1,8 @@
 // The scanner of literals: the sign, the prefix, then the digits (S's `lit`).
 ghost use Rattle.std.specs.Prelude.{◌≡◌, ◌≤◌, length, drop, take_while, ◌==◌};
+ghost use Rattle.format.specs.Meaning.{sign_by};
 ghost use Rattle.grammar.specs.Meaning.{literal_minus, prefix_radix, after_prefix};
-ghost use Rattle.scan.specs.Literal.{literal_sign, FindsLiteral};
+ghost use Rattle.scan.specs.Literal.{FindsLiteral};
 
 use crate::Found;
 use crate::reader::Reader;
@@ -15,7 +16,7 @@ pub struct Written {
 
 // Whether the literal has a sign of its own: signed formats take `-`.
 fn minus(text: &[u8], signed: bool) -> bool
-    ensures { result ≡ literal_minus (literal_sign signed) text.now }
+    ensures { result ≡ literal_minus (sign_by signed) text.now }
 {
     signed && matches!(text, [b'-', ..])
 }
@@ -53,7 +54,7 @@ fn digits_at(text: &[u8], radix: u32) -> usize
 }
 
 pub fn literal(text: &[u8], signed: bool) -> Written
-    ensures { FindsLiteral (literal_sign signed) text.now result }
+    ensures { FindsLiteral (sign_by signed) text.now result }
 {
     let neg = minus(text, signed);
     let from = neg as usize;

@@ -7,7 +7,6 @@ ghost use Rattle.scan.specs.Found.{written_of, Ready, Finds};
 
 use crate::reader::Reader;
 use crate::{Found, Parsed, ends};
-use exponent::ExpStep;
 
 impl Reader {
     // The exponent's digits, once its sign was read.
@@ -20,10 +19,7 @@ impl Reader {
         let mut e = p.exp;
         let mut seen = false;
         for b in &text[from..] {
-            match exponent::exp_step(*b, self.radix, self.skip, seen, p.down, e) {
-                ExpStep::On(next) => e = next,
-                ExpStep::Refuse(n) => return Found::Refused(n),
-            }
+            e = exponent::exp_step(*b, self.radix, self.skip, seen, p.down, e)?;
             seen = true;
         }
         ends::exp_end(p, seen, e)

@@ -10,8 +10,9 @@ ghost use Rattle.scan.specs.Parts.{Behind};
 
 use crate::reader::Reader;
 use crate::{Found, Parsed, ends};
+use format::Refusal;
+use grammar::byte;
 use grammar::byte::Class;
-use grammar::{byte, refusal};
 use run::Run;
 
 impl Reader {
@@ -22,12 +23,12 @@ impl Reader {
             (after_run class self.skip self.radix (drop next text.now) (written_of text.now p)) }
     {
         match class {
-            Class::Sign => Found::Refused(refusal::MISPLACED_SIGN),
-            Class::Point => Found::Refused(refusal::TOO_MANY_POINTS),
+            Class::Sign => Err(Refusal::MisplacedSign),
+            Class::Point => Err(Refusal::TooManyPoints),
             // the literal reader finds a `_` misplaced, the plain reader no digit
-            Class::Underscore if self.skip => Found::Refused(refusal::MISPLACED_UNDERSCORE),
+            Class::Underscore if self.skip => Err(Refusal::MisplacedUnderscore),
             Class::Mark(base) => self.exponent(text, next, Parsed { base, ..p }),
-            Class::Underscore | Class::Other => Found::Refused(refusal::INVALID_DIGIT),
+            Class::Underscore | Class::Other => Err(Refusal::InvalidDigit),
         }
     }
 
