@@ -12,7 +12,8 @@ use Rattle.grammar.specs.Reading.{reading, on_class, read_next, exp_seen, exp_at
 use Rattle.grammar.specs.declared.byte.Class.{Class}
 use Rattle.grammar.specs.declared.byte.Class.TheVariants.{Sign, Point, Underscore, Mark, Other}
 use Rattle.format.specs.declared.refusal.Refusal.{Refusal}
-use Rattle.format.specs.Meaning.{number, named}
+use Rattle.format.specs.declared.refusal.Refusal.TheVariants.{MisplacedSign, MisplacedUnderscore, ExpInvalidDigit, TooManyExp, ExpOverflow}
+use Rattle.format.specs.Meaning.{number}
 
 -- what the exponent is after a byte, or the refusal
 abbrev pub ExpStep : Type 0
@@ -20,18 +21,18 @@ ExpStep = Result ℕ Refusal
 
 unfoldable pub exp_under : Bool → Bool → ℕ → ExpStep
 exp_under true true e = Ok e
-exp_under true false e = Err (named 14)
-exp_under false seen e = Err (named 16)
+exp_under true false e = Err MisplacedUnderscore
+exp_under false seen e = Err ExpInvalidDigit
 
 unfoldable pub exp_digit : Bool → ℕ → ℕ → ExpStep
-exp_digit down e d = cond (leb (e * 10 + d) (exp_limit down)) (Ok (e * 10 + d)) (Err (named 19))
+exp_digit down e d = cond (leb (e * 10 + d) (exp_limit down)) (Ok (e * 10 + d)) (Err ExpOverflow)
 
 unfoldable pub exp_other : Class → Bool → Bool → ℕ → ExpStep
-exp_other Sign skip seen e = Err (named 12)
-exp_other Point skip seen e = Err (named 16)
+exp_other Sign skip seen e = Err MisplacedSign
+exp_other Point skip seen e = Err ExpInvalidDigit
 exp_other Underscore skip seen e = exp_under skip seen e
-exp_other (Mark base) skip seen e = Err (named 18)
-exp_other Other skip seen e = Err (named 16)
+exp_other (Mark base) skip seen e = Err TooManyExp
+exp_other Other skip seen e = Err ExpInvalidDigit
 
 unfoldable pub exp_step_of : Bool → ℕ → Bool → Bool → ℕ → ℕ → ExpStep
 exp_step_of skip radix seen down e b = cond (is_digit 10 b) (exp_digit down e (digit_of b)) (exp_other (class_of radix b) skip seen e)
@@ -49,19 +50,19 @@ read_step k radix b t p q x e = ap (λ (s : Scan). reading_of (finish (scan k ra
 module _ (skip : Bool) (radix b : ℕ) (x : Written) (e : ℕ) where
   exp-digit-step : (seen : Bool) → is_digit 10 b ≡ true
       → step (sep_of skip) radix b exponent (exp_seen seen) (with_exp x x.down e) ≡ exp_scan (exp_digit x.down e (digit_of b)) x
-  unfolding step on_other on_exp_digit exp_digit exp_scan number named
+  unfolding step on_other on_exp_digit exp_digit exp_scan number
   exp-digit-step seen h =
       let n = ten-plain radix b (ltb-true (digit_of b) 10 h) in
       simp (n.no_sign, n.no-point, n.no-under, n.no-mark, h) (go (leb (e * 10 + digit_of b) (exp_limit x.down)))
     where
       go : (t : Bool) → cond t (at exponent digit (with_exp x x.down (e * 10 + digit_of b))) (refuse 19)
-          ≡ exp_scan (cond t (Ok (e * 10 + digit_of b)) (Err (named 19))) x
+          ≡ exp_scan (cond t (Ok (e * 10 + digit_of b)) (Err ExpOverflow)) x
       go true = refl
       go false = refl
 
   exp-other-step : (seen : Bool) → is_digit 10 b ≡ false
       → on_class (class_of radix b) (sep_of skip) radix b exponent (exp_seen seen) (with_exp x x.down e) ≡ exp_scan (exp_other (class_of radix b) skip seen e) x
-  unfolding on_class on_sign on_point on_underscore on_mark on_other exp_other exp_under exp_scan number named
+  unfolding on_class on_sign on_point on_underscore on_mark on_other exp_other exp_under exp_scan number
   exp-other-step seen h = go (class_of radix b) skip seen
     where
       go : (c : Class) (skip seen : Bool) → on_class c (sep_of skip) radix b exponent (exp_seen seen) (with_exp x x.down e) ≡ exp_scan (exp_other c skip seen e) x
@@ -95,7 +96,7 @@ exp-bound skip radix seen down e b {v} h q = go (is_digit 10 b) q
     limit true = omega arith
     limit false = omega arith
 
-    by-digit : (t : Bool) → leb (e * 10 + digit_of b) (exp_limit down) ≡ t → Ok v ≡ cond t (Ok (e * 10 + digit_of b)) (Err (named 19)) → v ≤ 2147483648
+    by-digit : (t : Bool) → leb (e * 10 + digit_of b) (exp_limit down) ≡ t → Ok v ≡ cond t (Ok (e * 10 + digit_of b)) (Err ExpOverflow) → v ≤ 2147483648
     by-digit true g q = let z : v ≡ e * 10 + digit_of b = cc in omega (arith, leb-true (e * 10 + digit_of b) (exp_limit down) g, limit down)
     by-digit false g q = let z : ◌≡◌ {A = ℕ} 0 1 = cc in absurd (omega arith)
 

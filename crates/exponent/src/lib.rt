@@ -20,7 +20,7 @@ fn exp_limit(down: bool) -> u64
     if down { 2147483648 } else { 2147483647 }
 }
 
-#[tactic(auto, unfolding(crate::specs::Exponent::exp_digit, format::specs::Meaning::named))]
+#[tactic(auto, unfolding(crate::specs::Exponent::exp_digit))]
 fn exp_digit(down: bool, e: u64, d: u32) -> ExpStep
     requires { e ≤ 2147483648 }
     ensures { result ≡ exp_digit down e d }
@@ -33,10 +33,7 @@ fn exp_digit(down: bool, e: u64, d: u32) -> ExpStep
     }
 }
 
-#[tactic(
-    auto,
-    unfolding(crate::specs::Exponent::exp_other, crate::specs::Exponent::exp_under, format::specs::Meaning::named)
-)]
+#[tactic(auto, unfolding(crate::specs::Exponent::exp_other, crate::specs::Exponent::exp_under))]
 fn exp_other(class: Class, skip: bool, seen: bool, e: u64) -> ExpStep
     ensures { result ≡ exp_other class skip seen e }
 {

@@ -8,7 +8,8 @@ use Rattle.std.proofs.Math.Dec.{eqb, ltb}
 use Rattle.std.proofs.lemmas.Bool.{eqb-false, ltb-true, ltb-false}
 use Rattle.std.proofs.lemmas.List.{take_rest, get_or_default}
 use Rattle.format.specs.declared.refusal.Refusal.{Refusal}
-use Rattle.format.specs.Meaning.{number as number_of, named}
+use Rattle.format.specs.declared.refusal.Refusal.TheVariants.{NoDigits, MisplacedSign, InvalidDigit, TooManyPoints, ExpNoDigits}
+use Rattle.format.specs.Meaning.{number as number_of}
 use Rattle.grammar.specs.Meaning.{is_sign, Written, Reading, number, unread, with_exp}
 use Rattle.grammar.specs.Automaton.{at, exponent, nothing, sign}
 use Rattle.grammar.specs.Reading.{reading, exp_at, exp_end, read-exp-end, read-refused, sign_first, read-exponent-sign, read-exponent-unsigned}
@@ -50,7 +51,7 @@ unfoldable pub no_digits : Parsed → Bool
 no_digits p = eqb p.whole.digits 0 && eqb p.frac.digits 0
 
 unfoldable pub unmarked_of : Parsed → Found
-unmarked_of p = cond (no_digits p) (Err (named 11)) (Ok p)
+unmarked_of p = cond (no_digits p) (Err NoDigits) (Ok p)
 
 abbrev pub with_exponent : Parsed → ℕ → Parsed
 with_exponent p e = record { neg = p.neg; whole = p.whole; frac = p.frac; base = p.base; down = p.down; exp = e }
@@ -62,7 +63,7 @@ abbrev pub with_mark_base : Parsed → ℕ → Parsed
 with_mark_base p b = record { neg = p.neg; whole = p.whole; frac = p.frac; base = b; down = p.down; exp = p.exp }
 
 unfoldable pub exp_end_of : Parsed → Bool → ℕ → Found
-exp_end_of p seen e = cond (no_digits p) (Err (named 11)) (cond seen (Ok (with_exponent p e)) (Err (named 17)))
+exp_end_of p seen e = cond (no_digits p) (Err NoDigits) (cond seen (Ok (with_exponent p e)) (Err ExpNoDigits))
 
 -- a run's count is that of its digits
 abbrev pub Counted : List ℕ → Run → Type 0
@@ -135,21 +136,21 @@ module _ (t : List ℕ) (p : Parsed) (ready : Ready t p) where
 
   pub finds-unmarked : {r : Found} {w : Reading} → r ≡ unmarked_of p → w ≡ cond (eqb (length (written_of t p).digits) 0) (unread 11) (number (written_of t p))
       → Finds t r w
-  unfolding unmarked_of number_of named
+  unfolding unmarked_of number_of
   finds-unmarked {r} {w} q e = go (no_digits p) q (e ∙ ap (λ (g : Bool). cond g (unread 11) (number (written_of t p))) (sym no-digits-is))
     where
-      go : (g : Bool) → r ≡ cond g (Err (named 11)) (Ok p) → w ≡ cond g (unread 11) (number (written_of t p)) → Finds t r w
+      go : (g : Bool) → r ≡ cond g (Err NoDigits) (Ok p) → w ≡ cond g (unread 11) (number (written_of t p)) → Finds t r w
       go true q e = subst (λ (f : Found). Finds t f w) (sym q) (refuses e)
       go false q e = subst (λ (f : Found). Finds t f w) (sym q) (finds e ready)
 
   pub finds-exp-end :
       {r : Found} {w : Reading} (seen : Bool) (e : ℕ) → e ≤ 2147483648 → r ≡ exp_end_of p seen e →
       w ≡ exp_end (eqb (length (written_of t p).digits) 0) seen (with_exp (written_of t p) (written_of t p).down e) → Finds t r w
-  unfolding exp_end_of exp_end number_of named
+  unfolding exp_end_of exp_end number_of
   finds-exp-end {r} {w} seen e l q z =
       go (no_digits p) seen q (z ∙ ap (λ (g : Bool). exp_end g seen (with_exp (written_of t p) (written_of t p).down e)) (sym no-digits-is))
     where
-      go : (g seen : Bool) → r ≡ cond g (Err (named 11)) (cond seen (Ok (with_exponent p e)) (Err (named 17)))
+      go : (g seen : Bool) → r ≡ cond g (Err NoDigits) (cond seen (Ok (with_exponent p e)) (Err ExpNoDigits))
           → w ≡ exp_end g seen (with_exp (written_of t p) (written_of t p).down e) → Finds t r w
       go true seen q z = subst (λ (f : Found). Finds t f w) (sym q) (refuses z)
       go false true q z = subst (λ (f : Found). Finds t f w) (sym q) (finds (z ∙ exp-written e) (ready-exp e l))
@@ -229,20 +230,20 @@ module _ (t : List ℕ) (from : ℕ) (skip : Bool) (radix : ℕ) (p : Parsed) wh
 
 -- the class that a match found, and its refusals
 module _ (t : List ℕ) (next : ℕ) (skip : Bool) (radix : ℕ) (p : Parsed) {c : Class} where
-  pub after-sign : c ≡ Sign → Finds t (Err (named 12)) (after_run c skip radix (drop next t) (written_of t p))
-  unfolding after_run number_of named
+  pub after-sign : c ≡ Sign → Finds t (Err MisplacedSign) (after_run c skip radix (drop next t) (written_of t p))
+  unfolding after_run number_of
   after-sign e = refuses (ap (λ (k : Class). after_run k skip radix (drop next t) (written_of t p)) e)
 
-  pub after-point : c ≡ Point → Finds t (Err (named 15)) (after_run c skip radix (drop next t) (written_of t p))
-  unfolding after_run number_of named
+  pub after-point : c ≡ Point → Finds t (Err TooManyPoints) (after_run c skip radix (drop next t) (written_of t p))
+  unfolding after_run number_of
   after-point e = refuses (ap (λ (k : Class). after_run k skip radix (drop next t) (written_of t p)) e)
 
   pub after-under : {n : Refusal} → c ≡ Underscore → number_of n ≡ under_number skip → Finds t (Err n) (after_run c skip radix (drop next t) (written_of t p))
   unfolding after_run
   after-under e q = refuses (ap (λ (k : Class). after_run k skip radix (drop next t) (written_of t p)) e ∙ ap unread (sym q))
 
-  pub after-other : c ≡ Other → Finds t (Err (named 13)) (after_run c skip radix (drop next t) (written_of t p))
-  unfolding after_run number_of named
+  pub after-other : c ≡ Other → Finds t (Err InvalidDigit) (after_run c skip radix (drop next t) (written_of t p))
+  unfolding after_run number_of
   after-other e = refuses (ap (λ (k : Class). after_run k skip radix (drop next t) (written_of t p)) e)
 
   pub after-mark :
