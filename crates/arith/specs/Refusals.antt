@@ -1,6 +1,6 @@
 -- The refusal of a divisor: one law for each way out, and what is known where there is none. Assumes nothing.
 use Rattle.std.specs.Prelude.{◌≡◌, refl, Bool, true, false, cond, ℕ, ◌<◌, eqb, ℤ, nat_abs}
-use Rattle.std.proofs.Common.{ap, ◌∙◌, arith, ne_eqb}
+use Rattle.std.proofs.Common.{arith, ne_eqb}
 use Rattle.std.proofs.lemmas.Bool.{eqb-false}
 use Rattle.format.specs.Checked.{Opens}
 use Rattle.format.specs.Meaning.{fault_of}

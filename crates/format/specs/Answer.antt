@@ -6,7 +6,8 @@ use Rattle.std.specs.Prelude.{◌≡◌, refl, true, false, not, is_some, is_non
 use Rattle.std.proofs.Common.{sym, ◌∙◌}
 use Rattle.std.proofs.Math.Path.{ap}
 use Rattle.format.specs.declared.refusal.Refusal.{Refusal}
-use Rattle.format.specs.Refusal.{named}
+use Rattle.format.specs.declared.refusal.Refusal.TheVariants.{WrongWidth, WrongFrac, WrongRadix, TooLong, WrongLength, Overflow, NoDigits, MisplacedSign, InvalidDigit, MisplacedUnderscore, TooManyPoints, ExpInvalidDigit, ExpNoDigits, TooManyExp, ExpOverflow, NotANumber, ZeroDivisor, NotPositive, WrongTaps, TooManyValues}
+use Rattle.format.specs.Meaning.{number, named}
 use Rattle.format.specs.Checked.{Refuses}
 use Rattle.format.specs.declared.Manner.{Manner}
 use Rattle.format.specs.Meaning.{Sign, settle, Kind, Answered, unless, Outcome, done, refused, answered}
@@ -48,3 +49,27 @@ none-not None false q = q
 -- the manner that a match found
 pub at-manner : (s : Sign) (w : ℕ) (x : ℤ) {j k : Manner} {o : Outcome} → k ≡ j → settle j s w x ≡ o → settle k s w x ≡ o
 at-manner s w x e q = rw e q
+
+-- each refusal is found again by its number, so no two have the same
+pub named-number : (e : Refusal) → named (number e) ≡ e
+unfolding named number
+named-number WrongWidth = refl
+named-number WrongFrac = refl
+named-number WrongRadix = refl
+named-number TooLong = refl
+named-number WrongLength = refl
+named-number Overflow = refl
+named-number NoDigits = refl
+named-number MisplacedSign = refl
+named-number InvalidDigit = refl
+named-number MisplacedUnderscore = refl
+named-number TooManyPoints = refl
+named-number ExpInvalidDigit = refl
+named-number ExpNoDigits = refl
+named-number TooManyExp = refl
+named-number ExpOverflow = refl
+named-number NotANumber = refl
+named-number ZeroDivisor = refl
+named-number NotPositive = refl
+named-number WrongTaps = refl
+named-number TooManyValues = refl

@@ -3,7 +3,7 @@
 use Rattle.std.specs.Prelude.{◌≡◌, refl, true, false, List, [], ◌∷◌, map, ℕ, ℤ, pos, neg_ℤ}
 use Rattle.format.specs.declared.Manner.TheVariants.{Strict, Saturating, Wrapping, Overflowing}
 use Rattle.format.specs.Meaning.{signed, unsigned, fault_of, lowest, highest, fits, hold}
-use Rattle.format.specs.Width.{is_width}
+use Rattle.format.specs.Meaning.{is_width}
 use Rattle.format.specs.Meaning.{wrap, settle, with_sign, unless, Outcome, done, refused, guarded}
 
 -- what comes out, with the flag clear: a raw, or one below 0

@@ -1,6 +1,6 @@
 -- What a format is, which raws it has, and what becomes of an exact number in each manner:
 -- document 01, "Domain and numbers". Assumes nothing.
-use Rattle.std.specs.Prelude.{Result, Ok, Err, Bool, true, false, cond, not, ◌&&◌, ℕ, ◌-◌, ◌*◌, ◌+◌, ◌^◌, leb, eqb, ℤ, pos, neg_ℤ, ◌-ℤ◌, ◌*ℤ◌}
+use Rattle.std.specs.Prelude.{Result, Ok, Err, Bool, ◌||◌, true, false, cond, not, ◌&&◌, ℕ, ◌-◌, ◌*◌, ◌+◌, ◌^◌, leb, eqb, ℤ, pos, neg_ℤ, ◌-ℤ◌, ◌*ℤ◌}
 use Rattle.std.specs.Int.Signed.{le_z, lt_z}
 use Rattle.laws.specs.Diff.{up}
 use Rattle.laws.specs.Floor.{floor}
@@ -8,13 +8,15 @@ use Rattle.format.specs.declared.Manner.{Manner}
 use Rattle.format.specs.declared.Manner.TheVariants.{Strict, Saturating, Wrapping, Overflowing}
 use Rattle.format.specs.declared.Answer.{Answer}
 use Rattle.format.specs.declared.refusal.Refusal.{Refusal}
-use Rattle.format.specs.Refusal.{number, named}
-unfoldable pub use Rattle.format.specs.Width.{is_width}
+use Rattle.format.specs.declared.refusal.Refusal.TheVariants.{WrongWidth, WrongFrac, WrongRadix, TooLong, WrongLength, Overflow, NoDigits, MisplacedSign, InvalidDigit, MisplacedUnderscore, TooManyPoints, ExpInvalidDigit, ExpNoDigits, TooManyExp, ExpOverflow, NotANumber, ZeroDivisor, NotPositive, WrongTaps, TooManyValues}
 
 -- "A format is a width W (8, 16, 32 or 64), signed or unsigned, and F fraction bits, 0 to W."
 pub data Sign : Type 0 where
   signed : Sign
   unsigned : Sign
+
+unfoldable pub is_width : ℕ → Bool
+is_width w = eqb w 8 || eqb w 16 || eqb w 32 || eqb w 64
 
 -- the first refusal of a format, 0 for none: "1: W is not one of the four", "2: F above W"
 unfoldable pub fault_of : ℕ → ℕ → ℕ
@@ -69,9 +71,57 @@ abbrev pub exact : Bool → ℕ → ℕ → ℤ
 exact neg high low = with_sign neg (high * 2 ^ 64 + low)
 
 -- a format is signed or not
-unfoldable pub sign_of : Bool → Sign
-sign_of true = signed
-sign_of false = unsigned
+unfoldable pub sign_by : Bool → Sign
+sign_by true = signed
+sign_by false = unsigned
+
+-- ---- The refusals, with their numbers in the table of answers.
+-- the number of a refusal in the table
+unfoldable pub number : Refusal → ℕ
+number WrongWidth = 1
+number WrongFrac = 2
+number WrongRadix = 3
+number TooLong = 4
+number WrongLength = 5
+number Overflow = 10
+number NoDigits = 11
+number MisplacedSign = 12
+number InvalidDigit = 13
+number MisplacedUnderscore = 14
+number TooManyPoints = 15
+number ExpInvalidDigit = 16
+number ExpNoDigits = 17
+number TooManyExp = 18
+number ExpOverflow = 19
+number NotANumber = 30
+number ZeroDivisor = 31
+number NotPositive = 32
+number WrongTaps = 40
+number TooManyValues = 41
+
+-- the refusal of a number of the table; any other number has none, and is taken for the last
+unfoldable pub named : ℕ → Refusal
+named n =
+    cond (eqb n 1) WrongWidth
+    (cond (eqb n 2) WrongFrac
+    (cond (eqb n 3) WrongRadix
+    (cond (eqb n 4) TooLong
+    (cond (eqb n 5) WrongLength
+    (cond (eqb n 10) Overflow
+    (cond (eqb n 11) NoDigits
+    (cond (eqb n 12) MisplacedSign
+    (cond (eqb n 13) InvalidDigit
+    (cond (eqb n 14) MisplacedUnderscore
+    (cond (eqb n 15) TooManyPoints
+    (cond (eqb n 16) ExpInvalidDigit
+    (cond (eqb n 17) ExpNoDigits
+    (cond (eqb n 18) TooManyExp
+    (cond (eqb n 19) ExpOverflow
+    (cond (eqb n 30) NotANumber
+    (cond (eqb n 31) ZeroDivisor
+    (cond (eqb n 32) NotPositive
+    (cond (eqb n 40) WrongTaps
+    TooManyValues))))))))))))))))))
 
 -- What the code calls a raw, an i64 in a signed format and a u64 in an unsigned one: the number that a raw stands for, and the raw of a number.
 pub record Kind (A : Type 0) : Type 0 where

@@ -4,7 +4,7 @@ use Rattle.laws.specs.Unique.{unique}
 use Rattle.format.specs.declared.Manner.{Manner}
 use Rattle.format.specs.declared.refusal.Refusal.{Refusal}
 use Rattle.format.specs.Meaning.{Kind, Answered, fault_of, unless, settle, exact, answered, checked}
-use Rattle.format.specs.Width.{is_width}
+use Rattle.format.specs.Meaning.{is_width}
 
 abbrev pub IsWidth : ℕ → Bool → Type 0
 IsWidth w r = r ≡ is_width w

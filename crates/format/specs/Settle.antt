@@ -8,7 +8,7 @@ use borrow.Author.Tests.{eq-eqb, ne_eqb}
 use Rattle.laws.specs.Bound.{sfits-in}
 use Rattle.laws.specs.Diff.{up}
 use Rattle.format.specs.Meaning.{Sign, signed, unsigned, wrap, settle, unless, with_sign, exact, Outcome, done, refused, guarded}
-use Rattle.format.specs.Width.{is_width}
+use Rattle.format.specs.Meaning.{is_width}
 use Rattle.format.specs.Fault.{width-bounds, half-word}
 use Rattle.format.specs.Theorems.{limit}
 use Rattle.format.specs.Place.{sign-out, residue, residue-wraps, resigned, resigned-wraps}

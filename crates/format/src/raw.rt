@@ -4,7 +4,7 @@ ghost use Rattle.std.specs.Prelude.{◌≡◌, ◌≤◌, ◌<◌, ◌^◌, pos}
 ghost use Rattle.std.specs.Int.{w64};
 ghost use Rattle.std.specs.Int.Signed.{lt_z};
 ghost use Rattle.std.proofs.Common.{SFits};
-ghost use Rattle.format.specs.Meaning.{Kind, signed_kind, unsigned_kind, sign_of, with_sign};
+ghost use Rattle.format.specs.Meaning.{Kind, signed_kind, unsigned_kind, sign_by, with_sign};
 ghost use Rattle.format.specs.Place.{residue_raw};
 ghost use Rattle.format.specs.Promise.{Magnitude};
 ghost use Rattle.format.specs.Theorems.{limit};
@@ -16,7 +16,7 @@ pub trait Raw: Copy {
 
     // Whether its formats are signed.
     fn signed() -> bool
-        ensures { sign_of result ≡ kind.sign };
+        ensures { sign_by result ≡ kind.sign };
 
     // The magnitude of the end of the range on that side.
     fn end(neg: bool, format: Format) -> u64

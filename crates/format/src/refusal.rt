@@ -1,6 +1,6 @@
 // Why a call is refused: document 01's table of answers, each refusal with its number there.
 ghost use Rattle.std.specs.Prelude.{◌≡◌};
-ghost use Rattle.format.specs.Refusal.{number};
+ghost use Rattle.format.specs.Meaning.{number};
 
 #[derive(Clone, Copy, Debug, PartialEq, Eq)]
 pub enum Refusal {

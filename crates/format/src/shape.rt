@@ -1,6 +1,6 @@
 // A format that is known to be one of 01's: every function that settles a number takes it in place of a width.
 ghost use Rattle.std.specs.Prelude.{◌≡◌, true, ◌≤◌};
-ghost use Rattle.format.specs.Width.{is_width};
+ghost use Rattle.format.specs.Meaning.{is_width};
 
 use crate::refusal::Refusal;
 

@@ -1,8 +1,7 @@
 -- `arith::rem` meets its promise: the refusals first, then the remainder with the dividend's sign, fitted. Assumes nothing.
-use Rattle.std.proofs.Common.{ℤ, ◌^◌, ◌*ℤ◌, pos}
+use Rattle.std.proofs.Common.{ℤ}
 use Rattle.std.specs.Int.Signed.{rem_z}
 use Rattle.format.specs.Answer.{exit-answered}
-use Rattle.exact.specs.Refusals.{frac-fits}
 use Rattle.exact.specs.Signs.{via₂, size-some}
 use Rattle.exact.specs.Settled.{fitted}
 use Rattle.arith.proofs.rem.Goals as goal

@@ -1,7 +1,7 @@
 -- `format::check` meets its promise: the width goes first. Assumes nothing.
 use Rattle.std.proofs.Common.{arith}
 use Rattle.std.proofs.Math.Path.{refl}
-use Rattle.format.specs.Refusal.{named}
+use Rattle.format.specs.Meaning.{named}
 use Rattle.format.specs.Fault.{fault-width, fault-frac, fault-none}
 use Rattle.format.specs.Checked.{checked-fault, checked-none}
 use Rattle.format.proofs.check.Goals as goal

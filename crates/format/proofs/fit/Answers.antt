@@ -2,7 +2,7 @@
 use Rattle.std.proofs.Common.{arith, sym, ◌∙◌}
 use Rattle.std.proofs.Math.Path.{refl, ap}
 use Rattle.std.proofs.lemmas.Result.{err_from_is_err_and}
-use Rattle.format.specs.Refusal.{named}
+use Rattle.format.specs.Meaning.{named}
 use Rattle.format.specs.Answer.{done-answered, refused-answered, at-manner, none-or, none-not}
 use Rattle.format.specs.Meaning.{done, wrap, exact}
 use Rattle.format.specs.Settle.{wrapping-done}

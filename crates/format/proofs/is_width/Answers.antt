@@ -1,7 +1,7 @@
 -- `format::is_width` meets its promise, by the tests. Assumes nothing.
 use Rattle.std.proofs.Common.{arith}
 use Rattle.std.proofs.lemmas.Grind.{common_steps}
-use Rattle.format.specs.Width.{is_width}
+use Rattle.format.specs.Meaning.{is_width}
 use Rattle.format.proofs.is_width.Goals as goal
 
 pub returns-in-8 : goal.returns-in-8

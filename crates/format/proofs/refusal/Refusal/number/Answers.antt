@@ -1,5 +1,5 @@
 -- `Refusal::number` meets its promise, one refusal after another. Assumes nothing.
-use Rattle.format.specs.Refusal.{number}
+use Rattle.format.specs.Meaning.{number}
 use Rattle.format.proofs.refusal.Refusal.number.Goals as goal
 
 pub returns-in-WrongWidth : goal.returns-in-WrongWidth
