@@ -2,7 +2,7 @@
 use mathlib.Core.Path.{◌≡◌, refl, sym, ap, ap₂, ◌∙◌}
 use mathlib.Core.Bool.{Bool, true, false, cond}
 use mathlib.Core.List.{List, [], ◌∷◌, ◌++◌, map, append_assoc, append-nil}
-use Prim.Native.Nat.{ℕ, ◌+◌, ◌-◌, ◌*◌, ◌%◌, ◌^◌, ◌≤◌, ◌<◌}
+use Prim.Native.Nat.{ℕ, ◌+◌, ◌-◌, ◌*◌, ◌/◌, ◌%◌, ◌^◌, ◌≤◌, ◌<◌}
 use native.Mathlib.Nat.{mul-pos}
 use native.Mathlib.Omega.{arith}
 use lib.Dec.{eqb}
@@ -11,6 +11,20 @@ use borrow.Author.Tests.{eqb-true, eqb-false, ne_eqb}
 use Rattle.decimal.specs.Meaning.{byte_of, fraction_by, fraction_digits, fraction_text}
 use Rattle.decimal.specs.Digits.{mod-scale, fraction-scale, ends-start, ends-scale}
 use Rattle.decimal.specs.Layout.{Ends, word_text}
+use Rattle.format.specs.Width.{is_width}
+use Rattle.format.specs.Fault.{width-bounds}
+use Rattle.std.proofs.Math.Nat.{div-eq_of_lt}
+use Rattle.std.specs.Prelude.{Option, Some, None}
+use Rattle.std.specs.Option.{SomeIff, unwrap_or}
+use Rattle.std.proofs.Common.{pow_mono, lt_of_lt_of_le}
+
+-- ---- what a format's fraction bits are at most, and past them nothing is left of a word
+pub frac-word : {w f : ℕ} → is_width w ≡ true → f ≤ w → f ≤ 64
+frac-word {w} h l = omega (arith, width-bounds w h)
+
+pub shifted : (m f : ℕ) → m < 2 ^ 64 → (o : Option ℕ) → SomeIff o (f < 64) (m / 2 ^ f) → unwrap_or o 0 ≡ m / 2 ^ f
+shifted m f h (Some x) s = s.1
+shifted m f h None s = let l : 64 ≤ f = omega (arith, s) in sym (div-eq_of_lt (lt_of_lt_of_le h (pow_mono {i = 64} {j = f} l)))
 
 -- ---- the fraction as a fraction of 64 bits
 full : (f : ℕ) → f ≤ 64 → 2 ^ f * 2 ^ (64 - f) ≡ 2 ^ 64

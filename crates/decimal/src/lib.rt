@@ -39,7 +39,7 @@ fn laid_out<'a, R: Raw>(places: &'a mut [u8; PLACES], raw: R, format: Format) ->
     let neg = raw.is_below();
     let size = raw.magnitude();
     let mut text = Layout::new(places);
-    fraction::write(&mut text, size, format.frac);
+    fraction::write(&mut text, size, format);
     whole::write(&mut text, size, format.frac);
     if neg {
         text.prepend(b'-');

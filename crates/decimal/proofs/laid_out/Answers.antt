@@ -1,16 +1,9 @@
 -- `laid_out` meets its contract: sign, whole part and fraction stand side by side. Assumes nothing.
-use Rattle.std.proofs.Common.{◌∷◌, ◌/◌, ◌%◌, ◌^◌, ℕ, List, ap, sym, ◌∙◌, arith}
-use Rattle.format.specs.Fault.{width-bounds}
+use Rattle.std.proofs.Common.{◌∷◌, ◌/◌, ◌%◌, ◌^◌, ℕ, List, ap, sym, ◌∙◌}
 use Rattle.decimal.specs.Meaning.{sign_text, whole_text, fraction_text, text_of}
 use Rattle.decimal.proofs.Entry.{raw-text}
 use Rattle.decimal.proofs.Parts.{joined}
 use Rattle.decimal.proofs.laid_out.Goals as goal
-
-pub write-requires-clause-bits : goal.write-requires-clause-bits
-write-requires-clause-bits g c = let f = c.args.format in omega (arith, width-bounds f.width f.one_of_four, f.within)
-
-pub write-requires-2-clause-bits : goal.write-requires-2-clause-bits
-write-requires-2-clause-bits g c = let f = c.args.format in omega (arith, width-bounds f.width f.one_of_four, f.within)
 
 pub returns-then-neg : goal.returns-then-neg
 unfolding text_of sign_text
