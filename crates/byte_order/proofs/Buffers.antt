@@ -1,119 +1,85 @@
--- The answers of the byte functions: the low bits that an answer holds, the refusal 5, and what a lent buffer holds after. Assumes nothing.
-use mathlib.Core.Path.{◌≡◌, refl, sym, ap, ap₂, ◌∙◌, subst}
-use mathlib.Core.List.{List, ◌++◌, reverse}
-use mathlib.Core.Bool.{Bool, true, false, cond}
-use Prim.Native.Nat.{ℕ, ◌+◌, ◌*◌, ◌/◌, ◌^◌, ◌≤◌, ◌<◌}
-use native.Mathlib.Omega.{arith}
-use lib.Dec.{leb, eqb}
-use lib.ListN.{length, drop}
-use lib.IntN.{ℤ, pos}
-use borrow.Author.Tests.{le-leb, lt-leb, eq-eqb, ne_eqb, leb-true, eqb-true}
+-- The answers of the byte functions: the low bits that a wrapped answer holds, a raw behind the refusals, and what a lent buffer holds
+-- after. Assumes nothing.
+use Rattle.std.specs.Prelude.{◌≡◌, refl, Bool, true, false, cond, ℕ, ◌/◌, ◌+◌, ◌*◌, ◌^◌, ◌≤◌, eqb, leb, ℤ, pos, List, ◌++◌, length, drop, Ok, Err}
+use Rattle.std.specs.Result.{IsErrAnd}
+use Rattle.std.proofs.Common.{ap, ap₂, ◌∙◌, arith}
+use Rattle.std.proofs.lemmas.List.{length-reverse}
+use borrow.Author.Tests.{eq-eqb, ne_eqb, leb-true, eqb-true}
 use Rattle.laws.specs.Diff.{up}
+use Rattle.format.specs.declared.Answer.{Answer}
 use Rattle.format.specs.declared.Manner.TheVariants.{Wrapping}
-use Rattle.format.specs.declared.SignedAnswer.{SignedAnswer}
-use Rattle.format.specs.declared.UnsignedAnswer.{UnsignedAnswer}
-use Rattle.format.specs.declared.UnsignedAnswer.TheVariants.{Done as DoneU, Refused as RefusedU}
-use Rattle.format.specs.Meaning.{signed, unsigned, fault_of, settle, wrap, done, with_sign, signed_answer, unsigned_answer, value_u}
-use Rattle.format.specs.Answer.{fault-unsigned, pass-unsigned}
+use Rattle.format.specs.declared.refusal.Refusal.{Refusal}
+use Rattle.format.specs.Meaning.{Kind, unsigned_kind, unsigned, Answered, answered, fault_of, unless, settle, wrap, done, with_sign, LetsThrough, Refuses}
+use Rattle.format.specs.Answer.{pass-answered, exit-answered}
 use Rattle.exact.specs.Meaning.{or_else}
 use Rattle.exact.specs.Refusals.{met}
-use Rattle.byte_order.specs.Meaning.{le_bytes, low_bits, little_of, big_of, buffer_fault, length_fault, buffer_of}
-use Rattle.byte_order.specs.Promise.{Stored}
 use Rattle.exact.specs.Signs.{one_word}
+use Rattle.byte_order.specs.Meaning.{low_bits, little_of, big_of, buffer_fault, length_fault, buffer_of}
+use Rattle.byte_order.specs.Promise.{Stored}
+use Rattle.byte_order.specs.Theorems.{bytes-length}
 
-pub value-done : {a : UnsignedAnswer} {x : ℕ} {g : Bool} → a ≡ DoneU x g → x ≡ value_u a
-unfolding value_u
-value-done e = rw e
+-- what an unsigned answer of the wrapping manner holds, and that it holds something
+module _ (w : ℕ) {x y : ℤ} {a : Answered ℕ} (e : x ≡ y) (q : a ≡ answered unsigned_kind (settle Wrapping unsigned w x)) where
+  pub low_of : {t : Answer ℕ} → a ≡ Ok t → t.raw ≡ low_bits w y
+  unfolding low_bits answered settle
+  low_of {t} p = let s : t.raw ≡ up (wrap unsigned w x) = cc in s ∙ ap (λ (z : ℤ). up (wrap unsigned w z)) e
 
-pub value-refused : {a : UnsignedAnswer} {n : ℕ} → a ≡ RefusedU n → 0 ≡ value_u a
-unfolding value_u
-value-refused e = rw e
+  pub low-some : {n : Refusal} → a ≡ Err n → ⊥
+  unfolding answered settle
+  low-some p = cc
 
-pub low_of : (w : ℕ) {x y : ℤ} {a : UnsignedAnswer} {r : ℕ} → x ≡ y → a ≡ unsigned_answer (settle Wrapping unsigned w x) → r ≡ value_u a → r ≡ low_bits w y
-unfolding low_bits value_u unsigned_answer settle
-low_of w e q p = p ∙ ap value_u q ∙ ap (λ (z : ℤ). up (wrap unsigned w z)) e
+-- one word, wrapped; and behind the refusals, in the format that they let through
+module _ {A : Type 0} (c : Kind A) where
+  pub word_wrapped : (w x : ℕ) {r : Answered A} → r ≡ answered c (settle Wrapping c.sign w (with_sign false (0 * 2 ^ 64 + x)))
+      → r ≡ answered c (done (wrap c.sign w (pos x)) false)
+  unfolding settle with_sign
+  word_wrapped w x p = p ∙ ap (λ (z : ℤ). answered c (done (wrap c.sign w z) false)) (one_word false x)
 
--- s is the number of bytes, n that of the places
-module _ (w n : ℕ) {s : ℕ} (e : s ≡ w / 8) where
-  pub room_in : s ≤ n → 0 ≡ buffer_fault w n
-  unfolding buffer_fault
-  room_in h = rw (← e, le-leb s n h)
+  pub opened : {n w f v g x y : ℕ} {r : Answered A} → LetsThrough n w f v g → x ≡ y → r ≡ answered c (done (wrap c.sign v (pos x)) false)
+      → r ≡ answered c (unless n (done (wrap c.sign w (pos y)) false))
+  opened {n} {w} {y = y} o e p =
+      pass-answered c n (done (wrap c.sign w (pos y)) false) o.free
+      (p ∙ ap₂ (λ (v x : ℕ). answered c (done (wrap c.sign v (pos x)) false)) o.width_is e)
 
-  pub room-past : n < s → 5 ≡ buffer_fault w n
-  unfolding buffer_fault
-  room-past h = rw (← e, lt-leb s n h)
-
-  pub length-is : n ≡ s → 0 ≡ length_fault w n
-  unfolding length_fault
-  length-is h = rw (← e, eq-eqb n s h)
-
-  pub length-not : (n ≡ s → ⊥) → 5 ≡ length_fault w n
-  unfolding length_fault
-  length-not h = rw (← e, ne_eqb n s h)
-
--- where there is no refusal, the bytes have their places
-pub room-none : (w n : ℕ) {s : ℕ} → s ≡ w / 8 → buffer_fault w n ≡ 0 → s ≤ n
+-- where nothing is refused, the bytes have their places in the buffer and in a word, and those that are read are a word's
+pub room_of : (w f n : ℕ) {s : ℕ} → or_else (fault_of w f) (buffer_fault w n) ≡ 0 → s ≡ w / 8 → (s ≤ n) × (s ≤ 8)
 unfolding buffer_fault
-room-none w n {s} e h = go (leb (w / 8) n) refl h
+room_of w f n {s} z q = let m = met w f (buffer_fault w n) refl z in (go (leb (w / 8) n) refl m.rest, omega (arith, m.word, q))
   where
     go : (t : Bool) → leb (w / 8) n ≡ t → ◌≡◌ {A = ℕ} (cond t 0 5) 0 → s ≤ n
-    go true q h = omega (arith, leb-true (w / 8) n q)
-    go false q h = absurd (omega arith)
+    go true e h = omega (arith, leb-true (w / 8) n e)
+    go false e h = absurd (omega arith)
 
-pub length_none : (w n : ℕ) → w ≤ 64 → length_fault w n ≡ 0 → n ≤ 8
+pub length_of : (w f n : ℕ) → or_else (fault_of w f) (length_fault w n) ≡ 0 → n ≤ 8
 unfolding length_fault
-length_none w n l h = go (eqb n (w / 8)) refl h
+length_of w f n z = let m = met w f (length_fault w n) refl z in go (eqb n (w / 8)) refl m.word m.rest
   where
-    go : (t : Bool) → eqb n (w / 8) ≡ t → ◌≡◌ {A = ℕ} (cond t 0 5) 0 → n ≤ 8
-    go true q h = omega (arith, eqb-true n (w / 8) q)
-    go false q h = absurd (omega arith)
+    go : (t : Bool) → eqb n (w / 8) ≡ t → w ≤ 64 → ◌≡◌ {A = ℕ} (cond t 0 5) 0 → n ≤ 8
+    go true e l h = omega (arith, eqb-true n (w / 8) e)
+    go false e l h = absurd (omega arith)
 
-pub eight : (w : ℕ) {s : ℕ} → s ≡ w / 8 → w ≤ 64 → s ≤ 8
-eight w e h = omega arith
+pub little-length : (w : ℕ) (a : ℤ) → length (little_of w a) ≡ w / 8
+little-length w a = bytes-length (w / 8) (low_bits w a)
 
--- where nothing is refused, the bytes have their places in the buffer and in a word
-pub room_of : (w f n : ℕ) {fault s : ℕ} → fault ≡ or_else (fault_of w f) (buffer_fault w n) → fault ≡ 0 → s ≡ w / 8 → (s ≤ n) × (s ≤ 8)
-room_of w f n e z q = let m = met w f (buffer_fault w n) e z in (room-none w n q m.rest, eight w q m.word)
+pub big-length : (w : ℕ) (a : ℤ) → length (big_of w a) ≡ w / 8
+big-length w a = length-reverse (little_of w a) ∙ little-length w a
 
--- one word, wrapped
-pub plain : (v : ℕ) {x : ℕ} → v ≡ x → with_sign false (0 * 2 ^ 64 + v) ≡ pos x
-unfolding with_sign
-plain v e = one_word false v ∙ ap pos e
-
-module _ (w : ℕ) {x y : ℤ} (e : x ≡ y) where
-  pub wrapped-signed : {r : SignedAnswer} → r ≡ signed_answer (settle Wrapping signed w x) → r ≡ signed_answer (done (wrap signed w y) false)
-  unfolding settle
-  wrapped-signed p = p ∙ ap (λ (z : ℤ). signed_answer (done (wrap signed w z) false)) e
-
-  pub wrapped-unsigned : {r : UnsignedAnswer} → r ≡ unsigned_answer (settle Wrapping unsigned w x) → r ≡ unsigned_answer (done (wrap unsigned w y) false)
-  unfolding settle
-  wrapped-unsigned p = p ∙ ap (λ (z : ℤ). unsigned_answer (done (wrap unsigned w z) false)) e
-
--- the buffer after: written, or as it was
-pub stored_at : {w f : ℕ} {out after l m : List ℕ} {r : UnsignedAnswer} → l ≡ m → Stored l w f out after r → Stored m w f out after r
-stored_at {w} {f} {out} {after} {r = r} e p = subst (λ (k : List ℕ). Stored k w f out after r) e p
-
-module _ (w f : ℕ) (out : List ℕ) {fault : ℕ} (e : fault ≡ or_else (fault_of w f) (buffer_fault w (length out))) where
-  pub stored-done : {bytes after : List ℕ} {s : ℕ} → fault ≡ 0 → s ≡ w / 8 → after ≡ bytes ++ drop s out → Stored bytes w f out after (DoneU s false)
-  unfolding buffer_of unsigned_answer
-  stored-done {bytes} z q p =
+-- the answer and the buffer after: written, or as it was
+module _ {w f : ℕ} {out bytes : List ℕ} where
+  pub stored-done : {after b : List ℕ} {r : Answer ℕ} → or_else (fault_of w f) (buffer_fault w (length out)) ≡ 0 → b ≡ bytes → length bytes ≡ w / 8
+      → r ≡ record { raw = length b; flag = false } → after ≡ b ++ drop (length b) out → Stored bytes w f out after (Ok r)
+  unfolding buffer_of answered
+  stored-done z e l q p =
       record {
-        answer = pass-unsigned _ (done (pos (w / 8)) false) e z (ap (λ (k : ℕ). DoneU k false) q);
-        buffer = rw (eq-eqb _ 0 (sym e ∙ z)) (p ∙ ap (λ (k : ℕ). bytes ++ drop k out) q);
+        answer = pass-answered unsigned_kind _ (done (pos (w / 8)) false) z (ap Ok (q ∙ ap (λ (k : ℕ). record { raw = k; flag = false }) (ap length e ∙ l)));
+        buffer = rw (eq-eqb _ 0 z) (p ∙ ap (λ (t : List ℕ). t ++ drop (length t) out) e ∙ ap (λ (k : ℕ). bytes ++ drop k out) l);
       }
 
-  pub stored_refused : {bytes : List ℕ} → (fault ≡ 0 → ⊥) → Stored bytes w f out out (RefusedU fault)
+  pub stored_exit : {e : Refusal} (r : Answered ℕ) → IsErrAnd r (λ d. d ≡ e) → Refuses (or_else (fault_of w f) (buffer_fault w (length out))) e
+      → Stored bytes w f out out r
   unfolding buffer_of
-  stored_refused h =
+  stored_exit r h q =
       record {
-        answer = fault-unsigned _ (done (pos (w / 8)) false) e h;
-        buffer = rw (ne_eqb _ 0 (λ z. h (e ∙ z)));
+        answer = exit-answered unsigned_kind _ _ r h q;
+        buffer = rw (ne_eqb _ 0 q.fault) refl;
       }
-
-  pub stored-little : (a : ℤ) {after : List ℕ} {s v : ℕ} → fault ≡ 0 → s ≡ w / 8 → v ≡ low_bits w a → after ≡ le_bytes s v ++ drop s out
-      → Stored (little_of w a) w f out after (DoneU s false)
-  stored-little a {s = s} z q l p = stored-done z q (p ∙ ap (λ (k : List ℕ). k ++ drop s out) (ap₂ le_bytes q l))
-
-  pub stored-big : (a : ℤ) {after : List ℕ} {s v : ℕ} → fault ≡ 0 → s ≡ w / 8 → v ≡ low_bits w a → after ≡ reverse (le_bytes s v) ++ drop s out
-      → Stored (big_of w a) w f out after (DoneU s false)
-  stored-big a {s = s} z q l p = stored-done z q (p ∙ ap (λ (k : List ℕ). reverse k ++ drop s out) (ap₂ le_bytes q l))

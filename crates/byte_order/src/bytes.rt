@@ -1,37 +1,38 @@
-// Byte order: the low W bits of a raw as W / 8 bytes, in words and in lent buffers.
-ghost use Rattle.std.specs.Prelude.{◌≡◌, true, ◌/◌, ◌≤◌, length};
-ghost use Rattle.format.specs.Meaning.{is_width, value_u};
-ghost use Rattle.exact.specs.Meaning.{number_of};
-ghost use Rattle.byte_order.specs.Meaning.{from_le, from_be, low_bits, little_of, big_of};
-ghost use Rattle.byte_order.specs.Promise.{Stored};
+// The low W bits of a raw as bytes of a word, to a lent buffer and back.
+ghost use Rattle.std.specs.Prelude.{◌≡◌, ◌≤◌, ◌++◌, false, pos, length, drop};
+ghost use Rattle.format.specs.Meaning.{answered, done, wrap};
+ghost use Rattle.byte_order.specs.Meaning.{from_le, from_be, low_bits, little_of};
 
-use crate::refusal;
-use exact::Number;
-use format::{Manner, UnsignedAnswer};
+use format::{Answer, Answered, Exact, Format, Manner, Raw};
 
-// The low W bits of x.
-fn low_bits(x: Number, width: u32) -> u64
-    requires { is_width width ≡ true }
-    ensures { result ≡ low_bits width (number_of x) }
+// The low W bits of a: the wrapping manner never refuses.
+pub(crate) fn low_bits<R: Raw>(a: R, format: Format) -> u64
+    ensures { result ≡ low_bits format.width (R.kind.number_of a) }
 {
-    value(format::unsigned::fit(x.neg, 0, x.size, width, Manner::Wrapping))
-}
-
-fn value(a: UnsignedAnswer) -> u64
-    ensures { result ≡ value_u a }
-{
-    match a {
-        UnsignedAnswer::Done { raw, flag: _ } => raw,
-        UnsignedAnswer::Refused(_) => 0,
+    let x = exact::of_number(exact::of(a));
+    match format::fit::<u64>(x, format, Manner::Wrapping) {
+        Ok(low) => low.raw,
+        Err(_) => 0,
     }
 }
 
-// The low W bits of x with their bytes in the other order.
-pub(crate) fn swapped(x: Number, width: u32) -> u64
-    requires { is_width width ≡ true }
-    ensures { result ≡ from_be 0 (little_of width (number_of x)) }
+// The raw congruent to x.
+pub(crate) fn wrapped<R: Raw>(x: u64, format: Format) -> Answered<R>
+    ensures { result ≡ answered R.kind (done (wrap R.kind.sign format.width (pos x)) false) }
 {
-    low_bits(x, width).swap_bytes() >> (64 - width)
+    let x = Exact {
+        neg: false,
+        high: 0,
+        low: x,
+    };
+    format::fit(x, format, Manner::Wrapping)
+}
+
+// The low W bits of a with their bytes in the other order.
+pub(crate) fn swapped<R: Raw>(a: R, format: Format) -> u64
+    ensures { result ≡ from_be 0 (little_of format.width (R.kind.number_of a)) }
+{
+    low_bits(a, format).swap_bytes() >> (64 - format.width)
 }
 
 // The number of these bytes, the first one highest.
@@ -54,43 +55,15 @@ pub(crate) fn read_le(bytes: &[u8]) -> u64
     u64::from_le_bytes(word)
 }
 
-// How many bytes a raw has.
-pub(crate) fn size(width: u32) -> usize
-    ensures { result ≡ width / 8 }
+// The bytes to the front of the buffer. The answer is how many.
+pub(crate) fn store(bytes: &[u8], out: &mut [u8]) -> Answer<u64>
+    requires { length bytes.now ≤ length out.now }
+    ensures answer { result ≡ record { raw = length bytes.now; flag = false } }
+    ensures buffer { out.new ≡ bytes.now ++ drop (length bytes.now) out.old }
 {
-    (width / 8) as usize
-}
-
-// x to the buffer, the lowest byte first. The answer is the number of bytes.
-#[tactic(auto, using(crate::proofs::Buffers::room_of))]
-pub(crate) fn to_le(x: Number, width: u32, frac: u32, out: &mut [u8]) -> UnsignedAnswer
-    ensures { Stored (little_of width (number_of x)) width frac out.old out.new result }
-{
-    let fault = refusal::of_room(width, frac, out.len());
-    if fault == 0 {
-        let n = size(width);
-        out[..n].copy_from_slice(&low_bits(x, width).to_le_bytes()[..n]);
-        return UnsignedAnswer::Done {
-            raw: n as u64,
-            flag: false,
-        };
+    out[..bytes.len()].copy_from_slice(bytes);
+    Answer {
+        raw: bytes.len() as u64,
+        flag: false,
     }
-    UnsignedAnswer::Refused(fault)
-}
-
-// The same with the highest byte first.
-#[tactic(auto, using(crate::proofs::Buffers::room_of))]
-pub(crate) fn to_be(x: Number, width: u32, frac: u32, out: &mut [u8]) -> UnsignedAnswer
-    ensures { Stored (big_of width (number_of x)) width frac out.old out.new result }
-{
-    let fault = refusal::of_room(width, frac, out.len());
-    if fault == 0 {
-        let n = size(width);
-        out[..n].copy_from_slice(&low_bits(x, width).to_be_bytes()[8 - n..]);
-        return UnsignedAnswer::Done {
-            raw: n as u64,
-            flag: false,
-        };
-    }
-    UnsignedAnswer::Refused(fault)
 }

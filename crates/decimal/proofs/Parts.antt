@@ -1,19 +1,30 @@
--- The fraction as one of 64 bits, its text behind another, and a text into the buffer. Assumes nothing.
+-- The fraction as one of 64 bits, and its text behind another. Assumes nothing.
 use mathlib.Core.Path.{◌≡◌, refl, sym, ap, ap₂, ◌∙◌}
 use mathlib.Core.Bool.{Bool, true, false, cond}
 use mathlib.Core.List.{List, [], ◌∷◌, ◌++◌, map, append_assoc, append-nil}
-use Prim.Native.Nat.{ℕ, ◌+◌, ◌-◌, ◌*◌, ◌%◌, ◌^◌, ◌≤◌, ◌<◌}
+use Prim.Native.Nat.{ℕ, ◌+◌, ◌-◌, ◌*◌, ◌/◌, ◌%◌, ◌^◌, ◌≤◌, ◌<◌}
 use native.Mathlib.Nat.{mul-pos}
 use native.Mathlib.Omega.{arith}
 use lib.Dec.{eqb}
 use lib.Pow.{pow_pos, pow-add}
-use lib.ListN.{length, drop}
-use borrow.Author.Tests.{eqb-true, eqb-false, ne_eqb, le-leb, lt-leb}
-use Rattle.format.specs.declared.UnsignedAnswer.TheVariants.{Done, Refused}
-use Rattle.format.specs.Meaning.{unsigned_answer}
-use Rattle.decimal.specs.Meaning.{byte_of, fraction_by, fraction_digits, fraction_text, put, buffer_after}
+use borrow.Author.Tests.{eqb-true, eqb-false, ne_eqb}
+use Rattle.decimal.specs.Meaning.{byte_of, fraction_by, fraction_digits, fraction_text}
 use Rattle.decimal.specs.Digits.{mod-scale, fraction-scale, ends-start, ends-scale}
-use Rattle.decimal.specs.Layout.{Ends, word_text, put_answer, put_over}
+use Rattle.decimal.specs.Layout.{Ends, word_text}
+use Rattle.format.specs.Meaning.{is_width}
+use Rattle.format.specs.Fault.{width-bounds}
+use Rattle.std.proofs.Math.Nat.{div-eq_of_lt}
+use Rattle.std.specs.Prelude.{Option, Some, None}
+use Rattle.std.specs.Option.{SomeIff, unwrap_or}
+use Rattle.std.proofs.Common.{pow_mono, lt_of_lt_of_le}
+
+-- ---- what a format's fraction bits are at most, and past them nothing is left of a word
+pub frac-word : {w f : ℕ} → is_width w ≡ true → f ≤ w → f ≤ 64
+frac-word {w} h l = omega (arith, width-bounds w h)
+
+pub shifted : (m f : ℕ) → m < 2 ^ 64 → (o : Option ℕ) → SomeIff o (f < 64) (m / 2 ^ f) → unwrap_or o 0 ≡ m / 2 ^ f
+shifted m f h (Some x) s = s.1
+shifted m f h None s = let l : 64 ≤ f = omega (arith, s) in sym (div-eq_of_lt (lt_of_lt_of_le h (pow_mono {i = 64} {j = f} l)))
 
 -- ---- the fraction as a fraction of 64 bits
 full : (f : ℕ) → f ≤ 64 → 2 ^ f * 2 ^ (64 - f) ≡ 2 ^ 64
@@ -54,16 +65,3 @@ module _ (f n : ℕ) (text : List ℕ) where
 -- ---- whole part and fraction
 pub joined : {before behind text : List ℕ} (wh fr : List ℕ) → before ≡ [] → behind ≡ before ++ fr → text ≡ wh ++ behind → text ≡ wh ++ fr
 joined wh fr e f w = w ∙ ap (λ (t : List ℕ). wh ++ t) (f ∙ ap (λ (t : List ℕ). t ++ fr) e)
-
--- ---- into the buffer
-module _ (t out : List ℕ) {text : List ℕ} (e : text ≡ t) where
-  pub put-short : length out < length text → (Refused 5 ≡ put_answer t out) × (out ≡ put_over t out)
-  unfolding put buffer_after unsigned_answer
-  put-short h = rw (lt-leb (length t) (length out) (omega (arith, ap length e))) (refl, refl)
-
-  pub put-copied : {left : List ℕ} → length text ≤ length out → left ≡ text
-      → (Done (length text) false ≡ put_answer t out) × (left ++ drop (length text) out ≡ put_over t out)
-  unfolding put buffer_after unsigned_answer
-  put-copied h c =
-      rw (le-leb (length t) (length out) (omega (arith, ap length e)))
-      (ap (λ (s : List ℕ). Done (length s) false) e, ap₂ (λ (s r : List ℕ). s ++ drop (length r) out) (c ∙ e) e)

@@ -8,7 +8,7 @@
 -- Assumes nothing.
 use Rattle.std.proofs.Math.Path.{◌≡◌, refl, ap, ap₂}
 use Rattle.std.proofs.Common.{sym, ◌∙◌, append-nil, zero-add, mul-pos, pos_of_ne-zero, div-lt_iff_lt-mul, arith, lit<, lit≤, pow_pos, pow-add, drop_of_length-le, take_all, lt-ltb, ltb-true, ltb-false, leb-true, ne_eqb, eqb-true}
-use Rattle.std.specs.Prelude.{Bool, cond, List, [], ◌∷◌, ◌++◌, map, ℕ, zero, suc, ◌+◌, ◌-◌, ◌*◌, ◌/◌, ◌%◌, ◌^◌, ◌≤◌, ◌<◌, leb, ltb, ℤ, pos, negsuc, drop}
+use Rattle.std.specs.Prelude.{Ok, Bool, cond, List, [], ◌∷◌, ◌++◌, map, ℕ, zero, suc, ◌+◌, ◌-◌, ◌*◌, ◌/◌, ◌%◌, ◌^◌, ◌≤◌, ◌<◌, leb, ltb, ℤ, pos, negsuc, drop}
 use Rattle.std.proofs.Math.Bool.{true, false}
 use Rattle.std.proofs.lemmas.Bool.{false≢true}
 use Rattle.std.proofs.Math.Nat.{one-le-pow, pow-le-pow_left, div-eq_of_lt}
@@ -18,8 +18,8 @@ use Rattle.std.proofs.lemmas.List.{length-map}
 use Rattle.std.proofs.Math.Seq.{take-append_seam}
 use Rattle.laws.specs.Nearest.{nearest_even, nearest-exact}
 use Rattle.format.specs.declared.Manner.{Manner}
-use Rattle.format.specs.declared.UnsignedAnswer.TheVariants.{Done}
-use Rattle.format.specs.Meaning.{Sign, done, refused, fault_of, settle, with_sign, unsigned_answer, guarded}
+use Rattle.format.specs.declared.Answer.{Answer}
+use Rattle.format.specs.Meaning.{Sign, Kind, Answered, unsigned_kind, done, refused, fault_of, settle, with_sign, answered, guarded}
 use Rattle.format.specs.Theorems.{InRange, limit, in-fits}
 use Rattle.format.proofs.Theorems.{settle-fits}
 use Rattle.format.specs.Fault.{fault-free, width-bounds}
@@ -37,7 +37,7 @@ use Rattle.grammar.specs.Run.{digit_values, values-digit, run_more, run_len, par
 use Rattle.grammar.specs.Theorems.{Taken, read_as}
 use Rattle.decimal.specs.Meaning.{byte_of, whole_digits, fraction_by, fraction_digits, sign_text, whole_text}
 use Rattle.decimal.specs.Meaning.{fraction_text, text_of, raw_text, put, buffer_after, write_of, left_of}
-use Rattle.decimal.specs.Promise.{WriteSigned}
+use Rattle.decimal.specs.Promise.{Write}
 use Rattle.decimal.specs.Digits.{whole-last, whole_length, whole-text-length}
 use Rattle.decimal.specs.Form.{Digits, none, more, Leads, lone, first, Form, Writes, pointed, form_text, text-form, digits-write, form_of, only}
 
@@ -263,20 +263,27 @@ pub same_text : (f : ℕ) (a b : ℤ) → raw_text a f ≡ raw_text b f → a �
 same_text f a b e = sym (raw-number a f) ∙ ap (λ (t : List ℕ). number_of f (plain_reading 10 t)) e ∙ raw-number b f
 
 -- ---- From the promise of a writer alone: what it is done with is the text of the raw, and reading it gives the raw back.
-module _ (raw : ℤ) (w f : ℕ) (out left : List ℕ) (n : ℕ) (flag : Bool) where
-  pub done-text : WriteSigned raw w f out (Done n flag) left → (fault_of w f ≡ 0) × (take n left ≡ raw_text raw f)
-  unfolding write_of left_of put buffer_after guarded unsigned_answer
-  done-text p = go (eqb (fault_of w f) 0) refl (leb (length (raw_text raw f)) (length out)) p.0 p.1
+module _ {A : Type 0} (c : Kind A) (raw : A) (w f : ℕ) (out left : List ℕ) (n : ℕ) (flag : Bool) where
+  pub done-text : Write c raw w f out (Ok (record { raw = n; flag = flag })) left → (fault_of w f ≡ 0) × (take n left ≡ raw_text (c.number_of raw) f)
+  unfolding write_of left_of put buffer_after guarded answered
+  done-text p = go (eqb (fault_of w f) 0) refl (leb (length text) (length out)) p.0 p.1
     where
+      text : List ℕ
+      text = raw_text (c.number_of raw) f
+
+      held : {a b : Answer ℕ} → ◌≡◌ {A = Answered ℕ} (Ok a) (Ok b) → a.raw ≡ b.raw
+      held e = cc
+
       go : (a : Bool) → eqb (fault_of w f) 0 ≡ a → (b : Bool)
-          → Done n flag ≡ unsigned_answer (cond a (cond b (done (pos (length (raw_text raw f))) false) (refused 5)) (refused (fault_of w f)))
-          → left ≡ buffer_after (raw_text raw f) out (cond a (cond b (done (pos (length (raw_text raw f))) false) (refused 5)) (refused (fault_of w f)))
-          → (fault_of w f ≡ 0) × (take n left ≡ raw_text raw f)
+          → Ok (record { raw = n; flag = flag }) ≡ answered unsigned_kind (cond a (cond b (done (pos (length text)) false) (refused 5)) (refused (fault_of w f)))
+          → left ≡ buffer_after text out (cond a (cond b (done (pos (length text)) false) (refused 5)) (refused (fault_of w f)))
+          → (fault_of w f ≡ 0) × (take n left ≡ text)
       go true e true r l =
-          let size : n ≡ length (raw_text raw f) = cc in
-          (eqb-true (fault_of w f) 0 e, ap₂ take size l ∙ take-append_seam (raw_text raw f) (drop (length (raw_text raw f)) out))
+          let size : n ≡ length text = held r in
+          (eqb-true (fault_of w f) 0 e, ap₂ take size l ∙ take-append_seam text (drop (length text) out))
       go true e false r l = let z : ◌≡◌ {A = ℕ} 0 1 = cc in absurd (omega arith)
       go false e b r l = let z : ◌≡◌ {A = ℕ} 0 1 = cc in absurd (omega arith)
 
-  pub written-reads : (k : Manner) (s : Sign) → WriteSigned raw w f out (Done n flag) left → InRange s w raw → read_of k s w f 10 (take n left) ≡ done raw false
-  written-reads k s p range = let d = done-text p in ap (read_of k s w f 10) d.1 ∙ write_read k s w f d.0 raw range
+  pub written-reads : (k : Manner) (s : Sign) → Write c raw w f out (Ok (record { raw = n; flag = flag })) left → InRange s w (c.number_of raw)
+      → read_of k s w f 10 (take n left) ≡ done (c.number_of raw) false
+  written-reads k s p range = let d = done-text p in ap (read_of k s w f 10) d.1 ∙ write_read k s w f d.0 (c.number_of raw) range

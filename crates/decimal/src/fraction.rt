@@ -5,27 +5,26 @@ ghost use Rattle.decimal.specs.Laid.{laid};
 ghost use Rattle.decimal.specs.Layout.{Ends, word_text};
 
 use crate::layout::{Layout, POINT};
+use format::Format;
 
 // The point and the digits of the fraction behind the text, nothing for 0.
-pub(crate) fn write(text: &mut Layout, magnitude: u64, frac: u32)
-    requires bits { frac ≤ 64 }
-    requires room { text.old.end ≤ POINT }
+pub(crate) fn write(text: &mut Layout, magnitude: u64, format: Format)
+    requires { text.old.end ≤ POINT }
     ensures start { text.new.start ≡ text.old.start }
-    ensures text { laid text.new ≡ laid text.old ++ fraction_text frac (magnitude % 2 ^ frac) }
+    ensures text { laid text.new ≡ laid text.old ++ fraction_text format.frac (magnitude % 2 ^ format.frac) }
 {
-    digits(text, scaled(magnitude, frac), frac);
+    digits(text, scaled(magnitude, format), format.frac);
 }
 
 // The fraction as a fraction of 64 bits: the shift drops the whole part. A shift by 64 must not occur.
 // Not by `checked_shl`, as `whole::part`: tried, the writer of whole numbers takes 4 percent longer.
-fn scaled(magnitude: u64, frac: u32) -> u64
-    requires { frac ≤ 64 }
-    ensures { result ≡ magnitude % 2 ^ frac * 2 ^ (64 - frac) }
+fn scaled(magnitude: u64, format: Format) -> u64
+    ensures { result ≡ magnitude % 2 ^ format.frac * 2 ^ (64 - format.frac) }
 {
-    if frac == 0 {
+    if format.frac == 0 {
         return 0;
     }
-    magnitude << (64 - frac)
+    magnitude << (64 - format.frac)
 }
 
 // The digits of fraction / 2^64, two at a time: the word above a hundred times what is left, until nothing is left.

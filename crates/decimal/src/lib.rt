@@ -1,50 +1,46 @@
 // The exact writer of document 01, module 6: a raw as the decimal text of its number.
 #![tactic(auto)]
 
-ghost use Rattle.std.specs.Prelude.{◌≡◌, ◌≤◌, ◌<◌};
-ghost use Rattle.decimal.specs.Meaning.{byte_of, text_of};
+ghost use Rattle.std.specs.Prelude.{◌≡◌, ◌<◌};
+ghost use Rattle.decimal.specs.Meaning.{byte_of, raw_text};
+ghost use Rattle.decimal.specs.Promise.{Write};
 ghost use Rattle.decimal.specs.Laid.{laid};
-ghost use Rattle.decimal.specs.Layout.{put_answer, put_over};
 
-use format::UnsignedAnswer;
+use format::{Answer, Answered, Format, Raw, Refusal};
 use layout::{Layout, PLACES};
 
 mod fraction;
 mod layout;
-pub mod signed;
-pub mod unsigned;
 mod whole;
 
-// The refusal of a buffer that is shorter than the text.
-pub const TOO_SMALL: u32 = 5;
-
-// The text of a number into the buffer, or 5 where that is too small. Nothing is written before the length is known.
-fn put(neg: bool, magnitude: u64, frac: u32, out: &mut [u8]) -> UnsignedAnswer
-    requires { frac ≤ 64 }
-    ensures { (result ≡ put_answer (text_of neg magnitude frac) out.old)
-        × (out.new ≡ put_over (text_of neg magnitude frac) out.old) }
+// The text of raw / 2^frac into `out`; done with the number of bytes written. Refused: 1 and 2 for the
+// format, then 5 where `out` is shorter than the text. Nothing is written before the length is known.
+pub fn write<R: Raw>(raw: R, width: u32, frac: u32, out: &mut [u8]) -> Answered<u64>
+    ensures { Write R.kind raw width frac out.old result out.new }
 {
+    let format = Format::new(width, frac)?;
     let mut places = [0; PLACES];
-    let text = laid_out(&mut places, neg, magnitude, frac).into_text();
+    let text = laid_out(&mut places, raw, format).into_text();
     if out.len() < text.len() {
-        return UnsignedAnswer::Refused(TOO_SMALL);
+        return Err(Refusal::WrongLength);
     }
     let count = text.len();
     out[..count].copy_from_slice(text);
-    UnsignedAnswer::Done {
+    Ok(Answer {
         raw: count as u64,
         flag: false,
-    }
+    })
 }
 
 // The text in its layout.
-fn laid_out<'a>(places: &'a mut [u8; PLACES], neg: bool, magnitude: u64, frac: u32) -> Layout<'a>
-    requires { frac ≤ 64 }
-    ensures { laid result ≡ text_of neg magnitude frac }
+fn laid_out<'a, R: Raw>(places: &'a mut [u8; PLACES], raw: R, format: Format) -> Layout<'a>
+    ensures { laid result ≡ raw_text (R.kind.number_of raw) format.frac }
 {
+    let neg = raw.is_below();
+    let size = raw.magnitude();
     let mut text = Layout::new(places);
-    fraction::write(&mut text, magnitude, frac);
-    whole::write(&mut text, magnitude, frac);
+    fraction::write(&mut text, size, format);
+    whole::write(&mut text, size, format.frac);
     if neg {
         text.prepend(b'-');
     }

@@ -7,17 +7,15 @@ use crate::layout::Layout;
 
 // The digits of the whole part before the text. One place is left for a sign.
 pub(crate) fn write(text: &mut Layout, magnitude: u64, frac: u32)
-    requires bits { frac ≤ 64 }
-    requires room { 20 < text.old.start }
+    requires { 20 < text.old.start }
     ensures room { 0 < text.new.start }
     ensures text { laid text.new ≡ whole_text (magnitude / 2 ^ frac) ++ laid text.old }
 {
     digits(text, part(magnitude, frac));
 }
 
-// The whole part: with 64 fraction bits there is none.
+// The whole part: with 64 fraction bits or more there is none.
 fn part(magnitude: u64, frac: u32) -> u64
-    requires { frac ≤ 64 }
     ensures { result ≡ magnitude / 2 ^ frac }
 {
     magnitude.checked_shr(frac).unwrap_or(0)

@@ -2,13 +2,13 @@
 // The file `stdout` beside src/ is computed by oracle/decimal_cases.py, not by this program.
 #![tactic(auto)]
 
-ghost use Rattle.std.specs.Prelude.{◌≤◌, ◌<◌};
+ghost use Rattle.std.specs.Prelude.{◌≤◌};
 
-use format::UnsignedAnswer;
+use format::{Answer, Answered, Raw};
 use std::io;
 
 fn main(rt: HostRuntime) -> io::Result<()> {
-    signed_line(&rt, 1, 16, 15)?;
+    line(&rt, 1i64, 16, 15)?;
     ends(&rt, 8, -128, 127, 255)?;
     ends(&rt, 16, -32768, 32767, 65535)?;
     ends(&rt, 32, -2147483648, 2147483647, 4294967295)?;
@@ -29,9 +29,9 @@ fn ends(rt: &impl Print, width: u32, low: i64, high: i64, top: u64) -> io::Resul
     requires { width ≤ 64 }
 {
     for frac in 0..=width {
-        signed_line(rt, low, width, frac)?;
-        signed_line(rt, high, width, frac)?;
-        unsigned_line(rt, top, width, frac)?;
+        line(rt, low, width, frac)?;
+        line(rt, high, width, frac)?;
+        line(rt, top, width, frac)?;
     }
     Ok(())
 }
@@ -45,33 +45,16 @@ fn every_frac(rt: &impl Print) -> io::Result<()> {
 }
 
 fn every_raw(rt: &impl Print, frac: u32) -> io::Result<()> {
-    for n in 0..256 {
-        unsigned_line(rt, n, 8, frac)?;
-        byte_line(rt, n, frac)?;
+    for byte in 0..=255u8 {
+        line(rt, byte as u64, 8, frac)?;
+        line(rt, byte.cast_signed() as i64, 8, frac)?;
     }
     Ok(())
 }
 
-// The byte n as a signed raw.
-fn byte_line(rt: &impl Print, n: u64, frac: u32) -> io::Result<()>
-    requires { n < 256 }
-{
-    if n < 128 {
-        signed_line(rt, format::signed::with_sign(false, n), 8, frac)
-    } else {
-        signed_line(rt, format::signed::with_sign(true, 256 - n), 8, frac)
-    }
-}
-
-fn signed_line(rt: &impl Print, raw: i64, width: u32, frac: u32) -> io::Result<()> {
+fn line<R: Raw>(rt: &impl Print, raw: R, width: u32, frac: u32) -> io::Result<()> {
     let mut text = [0u8; 67];
-    let answer = decimal::signed::write(raw, width, frac, &mut text[..]);
-    show(rt, answer, &text[..])
-}
-
-fn unsigned_line(rt: &impl Print, raw: u64, width: u32, frac: u32) -> io::Result<()> {
-    let mut text = [0u8; 67];
-    let answer = decimal::unsigned::write(raw, width, frac, &mut text[..]);
+    let answer = decimal::write(raw, width, frac, &mut text[..]);
     show(rt, answer, &text[..])
 }
 
@@ -88,7 +71,7 @@ fn buffers(rt: &impl Print) -> io::Result<()> {
 
 // The text that was written, or the refusal, and the buffer after it.
 fn into(rt: &impl Print, out: &mut [u8]) -> io::Result<()> {
-    let answer = decimal::signed::write(1, 16, 15, out);
+    let answer = decimal::write(1i64, 16, 15, out);
     show(rt, answer, out)?;
     rt.write_all(out)?;
     rt.println("")
@@ -97,21 +80,24 @@ fn into(rt: &impl Print, out: &mut [u8]) -> io::Result<()> {
 // 1, then 2, then 5.
 fn refusals(rt: &impl Print) -> io::Result<()> {
     let mut none = [0u8; 1];
-    show(rt, decimal::signed::write(1, 15, 16, &mut none[..0]), b"")?;
-    show(rt, decimal::signed::write(1, 16, 17, &mut none[..0]), b"")?;
-    show(rt, decimal::unsigned::write(1, 16, 16, &mut none[..0]), b"")
+    show(rt, decimal::write(1i64, 15, 16, &mut none[..0]), b"")?;
+    show(rt, decimal::write(1i64, 16, 17, &mut none[..0]), b"")?;
+    show(rt, decimal::write(1u64, 16, 16, &mut none[..0]), b"")
 }
 
 // The bytes that were written, or the refusal.
-fn show(rt: &impl Print, answer: UnsignedAnswer, text: &[u8]) -> io::Result<()> {
+fn show(rt: &impl Print, answer: Answered<u64>, text: &[u8]) -> io::Result<()> {
     match answer {
-        UnsignedAnswer::Done { raw, flag: _ } => {
+        Ok(Answer { raw, flag: _ }) => {
             let n = raw as usize;
             if n <= text.len() {
                 rt.write_all(&text[..n])?;
             }
         }
-        UnsignedAnswer::Refused(number) => print!(rt; "refused {number}")?,
+        Err(refusal) => {
+            let number = refusal.number();
+            print!(rt; "refused {number}")?;
+        }
     }
     rt.println("")
 }

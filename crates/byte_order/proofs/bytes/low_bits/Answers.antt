@@ -1,9 +1,10 @@
--- `byte_order::bytes::low_bits` meets its contract: wrapping leaves the low bits. Assumes nothing.
-use Rattle.exact.specs.Signs.{one_word}
-use Rattle.byte_order.proofs.Buffers.{low_of}
+-- `byte_order::bytes::low_bits` meets its contract: wrapping leaves the low bits, and never refuses. Assumes nothing.
+use Rattle.std.proofs.Common.{◌∙◌}
+use Rattle.byte_order.proofs.Buffers.{low_of, low-some}
 use Rattle.byte_order.proofs.bytes.low_bits.Goals as goal
 
-pub returns : goal.returns
-returns c =
-    let x = c.args.x in
-    low_of _ (one_word x.neg x.size) c.fit.ensures c.value.ensures
+pub returns-in-Ok : goal.returns-in-Ok
+returns-in-Ok g c = low_of c.args.format.width (c.of_number-x.ensures ∙ c.of.ensures) c.fit.ensures c.in-Ok.is
+
+pub returns-in-Err : goal.returns-in-Err
+returns-in-Err g c = absurd (low-some c.args.format.width (c.of_number-x.ensures ∙ c.of.ensures) c.fit.ensures c.in-Err.is)
