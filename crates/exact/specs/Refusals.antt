@@ -2,11 +2,8 @@
 use Rattle.std.specs.Prelude.{◌≡◌, refl, Bool, true, false, cond, ℕ, ◌≤◌, ◌<◌, eqb}
 use Rattle.std.proofs.Common.{sym, ◌∙◌, arith}
 use borrow.Author.Tests.{ne_eqb, eqb-true, eqb-false}
-use Rattle.format.specs.Meaning.{fault_of}
-use Rattle.format.specs.Width.{is_width}
+use Rattle.format.specs.Meaning.{fault_of, is_width, named, LetsThrough, Refuses}
 use Rattle.format.specs.declared.refusal.Refusal.{Refusal}
-use Rattle.format.specs.Refusal.{named}
-use Rattle.format.specs.Checked.{Opens, Refuses}
 use Rattle.format.specs.Fault.{fault-free, width-bounds}
 use Rattle.exact.specs.Meaning.{or_else}
 
@@ -62,10 +59,10 @@ module _ {n : ℕ} (m : ℕ) where
   unfolding or_else
   refuses-second z h q = rw z (record { fault = h; named_is = q })
 
-  pub opens-both : {w f v g : ℕ} → Opens n w f v g → m ≡ 0 → Opens (or_else n m) w f v g
+  pub opens-both : {w f v g : ℕ} → LetsThrough n w f v g → m ≡ 0 → LetsThrough (or_else n m) w f v g
   unfolding or_else
   opens-both o z = record { free = rw o.free z; width_is = o.width_is; frac_is = o.frac_is }
 
 -- the fraction bits that a format was opened with are at most a word's
-pub frac-fits : {n w f v g : ℕ} → Opens n w f v g → is_width v ≡ true → g ≤ v → f ≤ 64
+pub frac-fits : {n w f v g : ℕ} → LetsThrough n w f v g → is_width v ≡ true → g ≤ v → f ≤ 64
 frac-fits o h l = omega (arith, (width-bounds _ h).1, o.frac_is, l)

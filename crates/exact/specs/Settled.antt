@@ -2,8 +2,7 @@
 use Rattle.std.specs.Prelude.{◌≡◌, ℕ, ℤ}
 use Rattle.std.proofs.Common.{ap, ◌∙◌}
 use Rattle.format.specs.declared.Manner.{Manner}
-use Rattle.format.specs.Meaning.{Kind, Answered, unless, settle, answered}
-use Rattle.format.specs.Checked.{Opens}
+use Rattle.format.specs.Meaning.{Kind, Answered, unless, settle, answered, LetsThrough}
 use Rattle.format.specs.Answer.{pass-answered}
 
 module _ {A : Type 0} (c : Kind A) (k : Manner) {x y : ℤ} (e : x ≡ y) where
@@ -11,7 +10,7 @@ module _ {A : Type 0} (c : Kind A) (k : Manner) {x y : ℤ} (e : x ≡ y) where
   settled n w p = p ∙ ap (λ (z : ℤ). answered c (unless n (settle k c.sign w z))) e
 
   -- the same behind the refusals, in the format that they let through
-  pub fitted : {n w f v g : ℕ} {r : Answered A} → Opens n w f v g → r ≡ answered c (settle k c.sign v x)
+  pub fitted : {n w f v g : ℕ} {r : Answered A} → LetsThrough n w f v g → r ≡ answered c (settle k c.sign v x)
       → r ≡ answered c (unless n (settle k c.sign w y))
   fitted {n} {w} o p =
       pass-answered c n (settle k c.sign w y) o.free

@@ -2,7 +2,7 @@
 use Rattle.std.specs.Prelude.{◌≡◌, true, ℕ, ◌≤◌}
 use Rattle.std.proofs.Common.{arith}
 use Rattle.format.specs.Fault.{width-bounds}
-use Rattle.format.specs.Width.{is_width}
+use Rattle.format.specs.Meaning.{is_width}
 use Rattle.float.specs.declared.pattern.Binary.{Binary as Declared}
 use Rattle.float.specs.Meaning.{Binary}
 use Rattle.float.specs.Parts.{binary}

@@ -7,10 +7,8 @@ use Rattle.std.proofs.Common.{sym, ◌∙◌}
 use Rattle.std.proofs.Math.Path.{ap}
 use Rattle.format.specs.declared.refusal.Refusal.{Refusal}
 use Rattle.format.specs.declared.refusal.Refusal.TheVariants.{WrongWidth, WrongFrac, WrongRadix, TooLong, WrongLength, Overflow, NoDigits, MisplacedSign, InvalidDigit, MisplacedUnderscore, TooManyPoints, ExpInvalidDigit, ExpNoDigits, TooManyExp, ExpOverflow, NotANumber, ZeroDivisor, NotPositive, WrongTaps, TooManyValues}
-use Rattle.format.specs.Meaning.{number, named}
-use Rattle.format.specs.Checked.{Refuses}
+use Rattle.format.specs.Meaning.{number, named, Refuses, Sign, settle, Kind, Answered, unless, Outcome, done, refused, answered}
 use Rattle.format.specs.declared.Manner.{Manner}
-use Rattle.format.specs.Meaning.{Sign, settle, Kind, Answered, unless, Outcome, done, refused, answered}
 use Rattle.format.specs.Settle.{unless-fault, unless-none}
 
 module _ {A : Type 0} (c : Kind A) {o : Outcome} where

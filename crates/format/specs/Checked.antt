@@ -4,19 +4,7 @@ use Rattle.std.proofs.Common.{sym, ap, ap₂, ◌∙◌}
 use Rattle.std.specs.Result.{IfOk, IfErr}
 use borrow.Author.Tests.{eq-eqb, ne_eqb, eqb-true, eqb-false}
 use Rattle.format.specs.declared.refusal.Refusal.{Refusal}
-use Rattle.format.specs.Meaning.{named}
-use Rattle.format.specs.Meaning.{guarded, checked}
-
--- n is the number of the first refusal, 0 for none: there is none, and this is the format
-pub record Opens (n w f : ℕ) (width frac : ℕ) : Type 0 where
-  pub free : n ≡ 0
-  pub width_is : width ≡ w
-  pub frac_is : frac ≡ f
-
--- there is one, and this is its name
-pub record Refuses (n : ℕ) (e : Refusal) : Type 0 where
-  pub fault : n ≢ 0
-  pub named_is : e ≡ named n
+use Rattle.format.specs.Meaning.{guarded, checked, named, LetsThrough, Refuses}
 
 -- a fault is answered by its refusal, and no fault by the value
 module _ {A : Type 0} (n : ℕ) (a : A) {m : ℕ} (e : m ≡ n) where
@@ -48,7 +36,7 @@ module _ {A : Type 0} {n : ℕ} (a : A) where
 
 -- a check's two answers in one: it settles whether there is a refusal, which, and else the format that is let through
 abbrev pub Told : ℕ → ℕ → ℕ → Result (ℕ × ℕ) Refusal → Type 0
-Told n w f r = IfOk r (λ x. Opens n w f x.0 x.1) × IfErr r (Refuses n)
+Told n w f r = IfOk r (λ x. LetsThrough n w f x.0 x.1) × IfErr r (Refuses n)
 
 pub new-unique : (n w f : ℕ) (r s : Result (ℕ × ℕ) Refusal) → Told n w f r → Told n w f s → r ≡ s
 new-unique n w f (Ok x) (Ok y) p q = ap Ok (ap₂ (λ (v g : ℕ). (v, g)) (p.0.width_is ∙ sym q.0.width_is) (p.0.frac_is ∙ sym q.0.frac_is))

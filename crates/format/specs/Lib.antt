@@ -5,7 +5,5 @@ pub mod Fault
 pub mod Meaning
 pub mod Place
 pub mod Promise
-pub mod Refusal
 pub mod Settle
 pub mod Theorems
-pub mod Width

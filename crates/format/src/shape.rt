@@ -14,12 +14,11 @@ pub struct Format {
 
 impl Format {
     ghost use Rattle.std.specs.Prelude.{◌-◌, ◌^◌, IfOk, IfErr};
-    ghost use Rattle.format.specs.Meaning.{fault_of};
-    ghost use Rattle.format.specs.Checked.{Opens, Refuses};
+    ghost use Rattle.format.specs.Meaning.{fault_of, LetsThrough, Refuses};
 
     // The format of this width and these fraction bits; 1 or 2 where there is none.
     pub fn new(width: u32, frac: u32) -> Result<Format, Refusal>
-        ensures ok { IfOk result (λ x. Opens (fault_of width frac) width frac x.width x.frac) }
+        ensures ok { IfOk result (λ x. LetsThrough (fault_of width frac) width frac x.width x.frac) }
         ensures err { IfErr result (Refuses (fault_of width frac)) }
     {
         crate::check(width, frac)?;

@@ -9,9 +9,8 @@ use borrow.Author.Tests.{eqb-true, eqb-false, eq-eqb, ne_eqb}
 use Rattle.wide.specs.declared.Wide.{Wide}
 use Rattle.format.specs.declared.Manner.{Manner}
 use Rattle.format.specs.declared.Manner.TheVariants.{Strict, Saturating, Wrapping, Overflowing}
-use Rattle.format.specs.Meaning.{Sign, is_width, settle, unless, fault_of, with_sign, exact, done, refused, guarded}
+use Rattle.format.specs.Meaning.{Sign, is_width, settle, unless, fault_of, with_sign, exact, done, refused, guarded, LetsThrough, Refuses}
 use Rattle.format.specs.declared.refusal.Refusal.{Refusal}
-use Rattle.format.specs.Checked.{Opens, Refuses}
 use Rattle.format.specs.Fault.{fault-free, width-bounds}
 use Rattle.format.specs.Settle.{unless-fault, unless-none}
 use Rattle.format.proofs.Far.{far-end}
@@ -142,7 +141,7 @@ module _ (b : Binary) (x : ℕ) {e l : ℕ} (exponent : e ≡ biased b x) (end :
   fault-none k h = simp (before-end b x exponent end h)
 
 -- ---- so, in the format that was let through, the check of the pattern refuses as the meaning does, and what it lets through is settled
-module _ (b : Binary) (k : Manner) (w f x : ℕ) {v g : ℕ} (o : Opens (fault_of w f) w f v g) where
+module _ (b : Binary) (k : Manner) (w f x : ℕ) {v g : ℕ} (o : LetsThrough (fault_of w f) w f v g) where
   whole-pattern : pattern_fault b k x ≡ whole_fault b k w f x
   whole-pattern = whole-second b k w f x refl o.free refl
 

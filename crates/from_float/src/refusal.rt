@@ -1,6 +1,6 @@
 // What a pattern is refused for, after its format: a NaN, or an infinity outside the saturating manner (30).
 ghost use Rattle.std.specs.Prelude.{◌≡◌, IfOk, IfErr};
-ghost use Rattle.format.specs.Checked.{Refuses};
+ghost use Rattle.format.specs.Meaning.{Refuses};
 ghost use Rattle.float.specs.Formats.{binary_of};
 ghost use Rattle.from_float.specs.Parts.{infinite_fault, pattern_fault};
 

@@ -3,4 +3,3 @@ mod Compare
 mod Entry
 mod Leading
 mod Mend
-mod Rest

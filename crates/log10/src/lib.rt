@@ -3,22 +3,38 @@
 
 ghost use Rattle.std.specs.Prelude.{◌≡◌, ◌+◌, ◌-◌, ◌*◌, ◌^◌, ◌≤◌, ◌<◌, pos, ◌-ℤ◌};
 ghost use Rattle.log10.specs.Meaning.{reaches, log10_of};
+ghost use Rattle.log10.specs.Promise.{Log10};
 
 mod fives;
-pub mod signed;
-pub mod unsigned;
 
-// The refusal of zero and of negative numbers.
-pub const NOT_POSITIVE: u32 = 32;
+use format::{Answer, Answered, Format, Raw, Refusal};
+
+// The greatest k with 10^k <= raw / 2^frac; below one, k is negative. Refused: 1 and 2 for the format, then 32 for zero
+// or a negative number.
+pub fn log10<R: Raw>(raw: R, width: u32, frac: u32) -> Answered<i64>
+    ensures { Log10 R.kind raw width frac result }
+{
+    let format = Format::new(width, frac)?;
+    let size = raw.magnitude();
+    let below = raw.is_below();
+    if below || size == 0 {
+        return Err(Refusal::NotPositive);
+    }
+    Ok(Answer {
+        raw: of_positive(size, format),
+        flag: false,
+    })
+}
 
 // k of a value above zero, on either side of one: the raw's leading zeros give a guess, which is k or one less, and one
 // comparison with the next power of ten tells which. Guesses count from 10^-20, the least power that a raw can need.
-fn of_positive(raw: u64, frac: u32) -> i64
-    requires { (0 < raw) × (frac ≤ 64) }
-    ensures { result ≡ log10_of raw frac }
+fn of_positive(raw: u64, format: Format) -> i64
+    requires { 0 < raw }
+    ensures { result ≡ log10_of raw format.frac }
 {
-    let guess = guess(u64::leading_zeros(raw), frac);
-    minus(guess + next_reached(raw, frac, guess) as u32, 20)
+    let guess = guess(raw.leading_zeros(), format.frac);
+    let power = guess + u32::from(next_reached(raw, format.frac, guess));
+    i64::from(power) - 20
 }
 
 // The greatest power of ten that is at most 2^(63 - zeros - frac), the value of the raw's highest bit: 1233 / 4096 is
@@ -39,13 +55,6 @@ fn next_reached(raw: u64, frac: u32, guess: u32) -> bool
         × (raw * 5 ^ (19 - guess) < 2 ^ 64) }
     ensures { result ≡ reaches raw frac (pos guess -ℤ pos 19) }
 {
-    let fives = fives::fives(guess);
-    raw * fives[0] / 2 >> (frac + guess - 20) >= fives[1]
-}
-
-// a - b, as a signed number.
-fn minus(a: u32, b: u32) -> i64
-    ensures { result ≡ pos a -ℤ pos b }
-{
-    a as i64 - b as i64
+    let (below, above) = fives::fives(guess);
+    raw * below / 2 >> (frac + guess - 20) >= above
 }

@@ -1,14 +1,16 @@
 -- The operations on signs and magnitudes, as the code computes them, for the crate `further` too. Assumes nothing.
-use Rattle.std.specs.Prelude.{◌≡◌, refl, Bool, true, false, not, ℕ, zero, suc, ◌+◌, ◌*◌, ◌-◌, ◌^◌, ◌≤◌, ◌<◌, min, ℤ, pos, negsuc, neg_ℤ, nat_abs, ◌+ℤ◌}
-use Rattle.std.proofs.Common.{sym, ap, ◌∙◌, arith, le_trans, lt_of_lt_of_le, div-le_self, mul-le-mul_left, mul-le-mul_right}
+use Rattle.std.specs.Prelude.{◌≡◌, refl, Bool, true, false, not, ℕ, zero, suc, ◌+◌, ◌*◌, ◌-◌, ◌/◌, ◌%◌, ◌^◌, ◌≤◌, ◌<◌, ℤ, pos, negsuc, neg_ℤ, nat_abs, ◌+ℤ◌, ◌*ℤ◌}
+use Rattle.std.proofs.Common.{sym, ap, ◌∙◌, arith, le_trans, div-le_self, mul-le-mul_left, mul-le-mul_right}
 use Rattle.std.specs.Bool.{beq}
+use Rattle.std.specs.Int.{div_ceil}
+use Rattle.laws.specs.Bound.{abs-mul-le}
 use Rattle.laws.specs.Floor.{floor}
 use Rattle.format.specs.Meaning.{with_sign}
+use Rattle.exact.specs.declared.Number.{Number}
+use Rattle.exact.specs.Meaning.{number_of}
+use Rattle.units.specs.Units.{floor_past, floor_whole}
 use Rattle.exact.specs.Signs.{negated, abs-sign, one_word, sum_same, sum-apart, sum-turned}
 use Rattle.results.specs.Meaning.{quot_euclid}
-
-pub via₃ : (op : ℤ → ℤ → ℤ → ℤ) {x y z r a b c : ℤ} → x ≡ a → y ≡ b → z ≡ c → r ≡ op x y z → r ≡ op a b c
-via₃ op {y = y} {z = z} {a = a} {b = b} p q s e = e ∙ ap (λ (v : ℤ). op v y z) p ∙ ap (λ (v : ℤ). op a v z) q ∙ ap (op a b) s
 
 -- the size of a number, as a number that is not negative
 pub size_of : (n : Bool) (v : ℕ) {z : ℤ} → with_sign n v ≡ z → with_sign false v ≡ pos (nat_abs z)
@@ -29,14 +31,15 @@ floor-size : (z : ℤ) (m : ℕ) → nat_abs (floor z m) ≤ nat_abs z
 floor-size (pos a) m = div-le_self a m
 floor-size (negsuc a) m = omega (arith, div-le_self a m)
 
-pub room : (n s : Bool) (v p x y m : ℕ) → with_sign n v ≡ floor (with_sign s p) m → p ≡ x * y → x < 2 ^ 64 → y < 2 ^ 64 → v + 2 ^ 64 ≤ 2 ^ 128
-room n s v p x y m e q h k =
-    let size : v ≤ p = omega (arith, floor-size (with_sign s p) m, abs-sign s p, abs-sign n v, ap nat_abs e) in
-    let across : x * y ≤ x * 2 ^ 64 = mul-le-mul_left x (omega arith) in
-    le_trans {m = suc x * 2 ^ 64} (omega (arith, size, across, q)) (mul-le-mul_right (2 ^ 64) h)
-
-pub sum_room : (v : ℕ) {b : ℕ} → v + 2 ^ 64 ≤ 2 ^ 128 → b < 2 ^ 64 → v + (0 * 2 ^ 64 + b) < 2 ^ 128
-sum_room v {b} h k = lt_of_lt_of_le {m = v + 2 ^ 64} (omega arith) h
+pub room : (n : Bool) (v m : ℕ) (x y : Number) → with_sign n v ≡ floor (number_of x *ℤ number_of y) m → x.size < 2 ^ 64 → y.size < 2 ^ 64
+    → v + 2 ^ 64 ≤ 2 ^ 128
+room n v m x y e h k =
+    let z = number_of x *ℤ number_of y in
+    let product : nat_abs z ≤ x.size * y.size =
+    abs-mul-le (number_of x) (number_of y) (omega (arith, abs-sign x.neg x.size)) (omega (arith, abs-sign y.neg y.size)) in
+    let size : v ≤ x.size * y.size = omega (arith, product, floor-size z m, abs-sign n v, ap nat_abs e) in
+    let across : x.size * y.size ≤ x.size * 2 ^ 64 = mul-le-mul_left x.size (omega arith) in
+    le_trans {m = suc x.size * 2 ^ 64} (omega (arith, size, across)) (mul-le-mul_right (2 ^ 64) h)
 
 -- the sum of two words and one: equal signs, and unequal ones
 module _ (n m : Bool) (a b : ℕ) where
@@ -52,6 +55,15 @@ module _ (n m : Bool) (a b : ℕ) where
   pub add_turned : {v : ℕ} → beq n m ≡ false → a < 0 * 2 ^ 64 + b → v ≡ 0 * 2 ^ 64 + b - a → with_sign m v ≡ with_sign n a +ℤ with_sign m b
   add_turned h l e = sum-turned n m a (0 * 2 ^ 64 + b) h (omega arith) e ∙ one
 
--- -1, 0 or 1
-pub sign-none : min 0 1 ≡ 0
-sign-none = refl
+-- below zero, down is away from zero
+pub ceil-turned : {n : Bool} (a m : ℕ) {v : ℕ} → 0 < m → n ≡ true → v ≡ div_ceil a m → with_sign n v ≡ floor (with_sign n a) m
+unfolding with_sign
+ceil-turned a m {v} h t e = rw t (go (a % m) refl)
+  where
+    go : (r : ℕ) → a % m ≡ r → neg_ℤ (pos v) ≡ floor (neg_ℤ (pos a)) m
+    go zero z =
+        let whole : v ≡ a / m = omega (arith, e, z) in
+        ap (λ (k : ℕ). neg_ℤ (pos k)) whole ∙ floor_whole a m h z
+    go (suc r) s =
+        let past : v ≡ suc (a / m) = omega (arith, e, s) in
+        ap (λ (k : ℕ). neg_ℤ (pos k)) past ∙ floor_past a m h (λ z. omega (arith, z, s))

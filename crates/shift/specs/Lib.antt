@@ -3,4 +3,3 @@ pub mod Meaning
 pub mod Promise
 pub mod Refusals
 pub mod Settled
-pub mod Shift

@@ -1,46 +1,33 @@
--- An answer with another flag, and a shift: wrapped, with the flag of its count. Assumes nothing.
-use Rattle.std.specs.Prelude.{◌≡◌, Bool, ℕ, ℤ}
-use Rattle.std.proofs.Math.Path.{ap, ap₂}
-use Rattle.std.proofs.Common.{◌∙◌}
-use Rattle.laws.specs.Diff.{up}
+-- A shift: wrapped in the format that its refusals let through, with the flag of its count. Assumes nothing.
+use Rattle.std.specs.Prelude.{◌≡◌, Ok, Err, Bool, ℕ, ℤ}
+use Rattle.std.proofs.Common.{ap, ◌∙◌}
+use Rattle.format.specs.declared.Answer.{Answer}
+use Rattle.format.specs.declared.refusal.Refusal.{Refusal}
 use Rattle.format.specs.declared.Manner.{Manner}
 use Rattle.format.specs.declared.Manner.TheVariants.{Wrapping}
-use Rattle.format.specs.declared.SignedAnswer.{SignedAnswer}
-use Rattle.format.specs.declared.SignedAnswer.TheVariants.{Done as DoneS, Refused as RefusedS}
-use Rattle.format.specs.declared.UnsignedAnswer.{UnsignedAnswer}
-use Rattle.format.specs.declared.UnsignedAnswer.TheVariants.{Done as DoneU, Refused as RefusedU}
-use Rattle.format.specs.Meaning.{signed, unsigned, fault_of, unless, settle, wrap, done, signed_answer, unsigned_answer}
-use Rattle.format.specs.Answer.{pass-signed, pass-unsigned}
-use Rattle.exact.specs.Meaning.{or_else}
-use Rattle.shift.specs.Meaning.{count_fault, count_flag}
-use Rattle.shift.specs.Shift.{flagged_s, flagged_u}
+use Rattle.format.specs.Meaning.{Kind, Answered, Outcome, unless, settle, wrap, done, answered, LetsThrough}
+use Rattle.format.specs.Answer.{pass-answered}
+use Rattle.shift.specs.Meaning.{count_flag}
+use Rattle.shift.specs.Refusals.{shift_fault}
 
-module _ {f g : Bool} where
-  pub flagged-signed : {a : SignedAnswer} {x y : ℤ} → a ≡ DoneS x g → y ≡ x → DoneS y f ≡ flagged_s a f
-  flagged-signed e q = rw (e, q)
+-- the wrapping manner refuses nothing, and its raw is the number's wrap, whatever the flag
+module _ {A : Type 0} (c : Kind A) (w : ℕ) (x : ℤ) where
+  pub wrapping-answers : {e : Refusal} → Err e ≡ answered c (settle Wrapping c.sign w x) → ⊥
+  unfolding settle answered
+  wrapping-answers h = cc
 
-  pub flagged-unsigned : {a : UnsignedAnswer} {x : ℕ} → a ≡ DoneU x g → DoneU x f ≡ flagged_u a f
-  flagged-unsigned e = rw e
+  pub wrapping-raw : {a : Answer A} {f g : Bool} → Ok a ≡ answered c (settle Wrapping c.sign w x) → f ≡ g
+      → Ok (record { raw = a.raw; flag = f }) ≡ answered c (done (wrap c.sign w x) g)
+  unfolding settle answered
+  wrapping-raw h e = cc
 
-module _ (f : Bool) {n : ℕ} where
-  pub kept-signed : {a : SignedAnswer} → a ≡ RefusedS n → RefusedS n ≡ flagged_s a f
-  kept-signed e = rw e
+-- the number x that the code shifted, in the format that the refusals let through, is the meaning's y at the width
+module _ {A : Type 0} (c : Kind A) (k : Manner) (n : ℕ) (y : ℕ → ℤ) where
+  abbrev outcome : ℕ → Outcome
+  outcome w = done (wrap c.sign w (y w)) (count_flag k w n)
 
-  pub kept-unsigned : {a : UnsignedAnswer} → a ≡ RefusedU n → RefusedU n ≡ flagged_u a f
-  kept-unsigned e = rw e
-
-module _ (w f n : ℕ) (k : Manner) {x y : ℤ} {g : Bool} {fault : ℕ} (d : fault ≡ or_else (fault_of w f) (count_fault k w n)) (z : fault ≡ 0) (e : x ≡ y)
-    (h : g ≡ count_flag k w n) where
-  pub shifted-signed : {a r : SignedAnswer} → a ≡ signed_answer (settle Wrapping signed w x) → r ≡ flagged_s a g
-      → r ≡ signed_answer (unless (or_else (fault_of w f) (count_fault k w n)) (done (wrap signed w y) (count_flag k w n)))
-  unfolding settle signed_answer
-  shifted-signed q p =
-      pass-signed (or_else (fault_of w f) (count_fault k w n)) (done (wrap signed w y) (count_flag k w n)) d z
-      (p ∙ ap₂ flagged_s q h ∙ ap (λ (v : ℤ). DoneS (wrap signed w v) (count_flag k w n)) e)
-
-  pub shifted-unsigned : {a r : UnsignedAnswer} → a ≡ unsigned_answer (settle Wrapping unsigned w x) → r ≡ flagged_u a g
-      → r ≡ unsigned_answer (unless (or_else (fault_of w f) (count_fault k w n)) (done (wrap unsigned w y) (count_flag k w n)))
-  unfolding settle unsigned_answer
-  shifted-unsigned q p =
-      pass-unsigned (or_else (fault_of w f) (count_fault k w n)) (done (wrap unsigned w y) (count_flag k w n)) d z
-      (p ∙ ap₂ flagged_u q h ∙ ap (λ (v : ℤ). DoneU (up (wrap unsigned w v)) (count_flag k w n)) e)
+  pub shifted : {x : ℤ} {w f v g : ℕ} {r : Answered A} → LetsThrough (shift_fault k w f n) w f v g → x ≡ y v
+      → r ≡ answered c (done (wrap c.sign v x) (count_flag k v n)) → r ≡ answered c (unless (shift_fault k w f n) (outcome w))
+  shifted {w} {f} {v} o e p =
+      pass-answered c (shift_fault k w f n) (outcome w) o.free
+      (p ∙ ap (λ (z : ℤ). answered c (done (wrap c.sign v z) (count_flag k v n))) e ∙ ap (λ (v : ℕ). answered c (outcome v)) o.width_is)

@@ -1,23 +1,16 @@
 // What the programs of cases print: one line an answer, what was asked, then number, flag and value.
 #![tactic(auto)]
 
-use format::{SignedAnswer, UnsignedAnswer};
+use format::{Answer, Answered, Raw};
 use std::io;
 
-pub fn signed(rt: &impl Print, asked: &[u8], a: SignedAnswer) -> io::Result<()> {
+pub fn answer<R: Raw>(rt: &impl Print, asked: &[u8], a: Answered<R>) -> io::Result<()> {
     match a {
-        SignedAnswer::Done { raw, flag } => {
-            let sign = if raw < 0 { "-" } else { "" };
-            line(rt, asked, 0, flag, sign, format::signed::magnitude(raw))
+        Ok(Answer { raw, flag }) => {
+            let sign = if raw.is_below() { "-" } else { "" };
+            line(rt, asked, 0, flag, sign, raw.magnitude())
         }
-        SignedAnswer::Refused(n) => line(rt, asked, n, false, "", 0),
-    }
-}
-
-pub fn unsigned(rt: &impl Print, asked: &[u8], a: UnsignedAnswer) -> io::Result<()> {
-    match a {
-        UnsignedAnswer::Done { raw, flag } => line(rt, asked, 0, flag, "", raw),
-        UnsignedAnswer::Refused(n) => line(rt, asked, n, false, "", 0),
+        Err(refusal) => line(rt, asked, refusal.number(), false, "", 0),
     }
 }
 
@@ -34,8 +27,8 @@ fn line(
 }
 
 // The bytes that were written, and the answer.
-pub fn bytes(rt: &impl Print, asked: &[u8], out: &[u8], a: UnsignedAnswer) -> io::Result<()> {
-    unsigned(rt, asked, a)?;
+pub fn bytes(rt: &impl Print, asked: &[u8], out: &[u8], a: Answered<u64>) -> io::Result<()> {
+    answer(rt, asked, a)?;
     for b in out {
         print!(rt; " {b}")?;
     }

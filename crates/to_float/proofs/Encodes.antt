@@ -8,8 +8,7 @@ use lib.Pow.{pow_pos, pow_mono}
 use lib.IntN.{ℤ, pos, nat_abs}
 use lib.Signed.{lt_z}
 use Rattle.std.specs.Prelude.{Ok}
-use Rattle.format.specs.Checked.{Opens}
-use Rattle.format.specs.Meaning.{fault_of, done, answered, unsigned_kind}
+use Rattle.format.specs.Meaning.{LetsThrough, fault_of, done, answered, unsigned_kind}
 use Rattle.format.specs.Answer.{done-answered, pass-answered}
 use Rattle.laws.specs.Nearest.{nearest_even}
 use Rattle.float.specs.Meaning.{Binary}
@@ -51,7 +50,7 @@ module _ (p w n f : ℕ) {r : ℕ} (e : Encoded p w n f r) where
   with-sign t q = rw t (ap₂ (λ (x y : ℕ). x + y) q e.pattern ∙ sym (pattern-sign (binary p w) n f))
 
 -- ---- the answer, of a number a that was taken apart, in the format that was let through
-pub encoded-answer : (b : Binary) (w f : ℕ) (a : ℤ) {v g n x : ℕ} {neg : Bool} → Opens (fault_of w f) w f v g → neg ≡ lt_z a (pos 0)
+pub encoded-answer : (b : Binary) (w f : ℕ) (a : ℤ) {v g n x : ℕ} {neg : Bool} → LetsThrough (fault_of w f) w f v g → neg ≡ lt_z a (pos 0)
     → n ≡ nat_abs a → x ≡ pattern_of b neg n g → Ok (record { raw = x; flag = false }) ≡ answered unsigned_kind (to_float_of b w f a)
 encoded-answer b w f a {x = x} o sign size e =
     let same : x ≡ pattern_of b (lt_z a (pos 0)) (nat_abs a) f = rw (← sign, ← size, ← o.frac_is) e in

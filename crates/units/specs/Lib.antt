@@ -1,3 +1,4 @@
 pub mod Meaning
+pub mod Stepped
 pub mod Theorems
 pub mod Units

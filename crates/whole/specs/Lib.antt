@@ -1,4 +1,5 @@
 pub mod Cases
 pub mod Meaning
 pub mod Promise
+pub mod Step
 pub mod Theorems

@@ -1,7 +1,7 @@
 -- `arith::divided` meets its contract: the format first, then the divisor. Assumes nothing.
 use Rattle.std.proofs.Common.{arith, sym, ap, ◌∙◌}
 use Rattle.std.proofs.lemmas.Result.{err_from_is_err_and}
-use Rattle.format.specs.Refusal.{named}
+use Rattle.format.specs.Meaning.{named}
 use Rattle.exact.specs.Refusals.{refuses-first, refuses-second, opens-both}
 use Rattle.arith.specs.Refusals.{divisor-zero, divisor-some}
 use Rattle.arith.proofs.divided.Goals as goal

@@ -1,10 +1,11 @@
 -- `results::floor` meets its contract, by the sign. Assumes nothing.
-use mathlib.Core.Path.{refl}
-use Rattle.exact.specs.Signs.{floor-above, floor-turned}
+use Rattle.std.proofs.Common.{refl}
+use Rattle.exact.specs.Signs.{floor-above}
+use Rattle.results.specs.Results.{ceil-turned}
 use Rattle.results.proofs.floor.Goals as goal
 
 pub returns-then-x : goal.returns-then-x
-returns-then-x c = floor-turned _ _ c.if-x.true c.above.ensures
+returns-then-x c = ceil-turned _ _ c.requires c.if-x.true c.div_ceil-size.ensures
 
-pub returns : goal.returns
-returns c = floor-above _ _ c.if-x.false refl
+pub returns-else-x : goal.returns-else-x
+returns-else-x c = rw c.if-x.false (floor-above _ _ refl refl)

@@ -1,20 +1,11 @@
 -- `units::above` meets its contract: 0 stays, and else down is one more in magnitude. Assumes nothing.
-use mathlib.Core.Path.{refl}
-use native.Mathlib.Omega.{arith}
-use Prim.Native.Nat.{◌^◌}
+use Rattle.std.proofs.Common.{refl, arith, ◌^◌}
 use Rattle.exact.specs.Signs.{floor-below}
-use Rattle.units.specs.Units.{above_zero, above-fits}
+use Rattle.units.specs.Units.{above_zero}
 use Rattle.units.proofs.above.Goals as goal
 
 pub returns-then-size-eq0 : goal.returns-then-size-eq0
 returns-then-size-eq0 c = search above_zero
 
-pub overflow_add-result : goal.overflow_add-result
-overflow_add-result c =
-    let a = c.args in
-    omega (arith, above-fits a.size (2 ^ a.frac) c.if-size-eq0.false c.quotient.ensures)
-
-pub returns : goal.returns
-returns c =
-    let a = c.args in
-    floor-below a.size (2 ^ a.frac) (omega arith) refl c.quotient.ensures refl
+pub returns-else-size-eq0 : goal.returns-else-size-eq0
+returns-else-size-eq0 c = floor-below c.args.size (2 ^ c.args.frac) (omega arith) refl c.quotient.ensures refl

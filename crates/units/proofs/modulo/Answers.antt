@@ -1,18 +1,16 @@
--- `units::modulo` meets its contract: above zero the rest, below zero the rest from the other end. Assumes nothing.
-use mathlib.Core.Path.{refl}
-use native.Mathlib.Omega.{arith}
-use Prim.Native.Nat.{◌-◌}
-use Rattle.units.specs.Units.{modulo-above, modulo-below, modulo-zero, rest_below}
+-- `units::modulo` meets its contract: below zero what the rest lacks of m, where something is left, and else the rest. Assumes nothing.
+use Rattle.std.proofs.Common.{sym, ◌∙◌, true≢false}
+use Rattle.units.specs.Units.{modulo-past, modulo-rest}
 use Rattle.units.proofs.modulo.Goals as goal
+use Rattle.units.proofs.modulo.Goals.{else-x-via-then-x+else-rest-ne0, else-x-via-else-x}
 
-pub returns-then-x-eq0 : goal.returns-then-x-eq0
-returns-then-x-eq0 c = modulo-zero _ _ c.if-x.true c.if-x-eq0.true
+pub returns-then-rest-ne0 : goal.returns-then-rest-ne0
+returns-then-rest-ne0 c = modulo-past _ _ c.requires c.if-x.true c.if-rest-ne0.true
 
-pub overflow_sub-result-then-x-2 : goal.overflow_sub-result-then-x-2
-overflow_sub-result-then-x-2 c = omega (arith, rest_below (c.args.x.size - 1) c.args.m c.requires)
-
-pub returns-then-x : goal.returns-then-x
-returns-then-x c = modulo-below _ _ c.if-x.true c.requires c.if-x-eq0.false refl
-
-pub returns : goal.returns
-returns c = modulo-above _ _ c.if-x.false
+pub returns-else-x : goal.returns-else-x
+returns-else-x c =
+    modulo-rest _ _ c.requires _
+    (elim c.else-x.branch [
+      | else-x-via-then-x+else-rest-ne0 w ↦ λ t. w.if-rest-ne0.false
+      | else-x-via-else-x w ↦ λ t. absurd (true≢false (sym t ∙ w.if-x.false))
+    ])

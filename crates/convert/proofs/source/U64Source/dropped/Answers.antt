@@ -1,0 +1,7 @@
+-- The shift is the floor, and past 63 bits nothing is left (`Drops`). Assumes nothing.
+use Rattle.std.proofs.Common.{ap, ◌∙◌, pos}
+use Rattle.convert.proofs.Drops.{unsigned-left}
+use Rattle.convert.proofs.source.U64Source.dropped.Goals as goal
+
+pub returns : goal.returns
+returns c = ap pos (c.unbounded_shr.ensures ∙ unsigned-left c.args.self c.args.bits c.ranges.self.fits)

@@ -1,2 +1,0 @@
--- Passed on.
-unfoldable pub use Rattle.format.specs.Meaning.{is_width}

@@ -1,9 +1,0 @@
--- `units::above_half` meets its contract: both sides as two words. Assumes nothing.
-use Prim.Native.Nat.{◌^◌}
-use Rattle.units.specs.Units.{twice-above}
-use Rattle.units.proofs.above_half.Goals as goal
-
-pub returns : goal.returns
-returns c =
-    twice-above (2 ^ c.args.frac) c.less.ensures c.scaled-twice.ensures
-    c.rest.ensures c.scaled.ensures
