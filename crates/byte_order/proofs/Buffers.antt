@@ -11,7 +11,7 @@ use Rattle.format.specs.declared.Manner.TheVariants.{Wrapping}
 use Rattle.format.specs.declared.refusal.Refusal.{Refusal}
 use Rattle.format.specs.Meaning.{Kind, unsigned_kind, unsigned, Answered, answered, fault_of, unless, settle, wrap, done, with_sign}
 use Rattle.format.specs.Answer.{pass-answered, exit-answered}
-use Rattle.format.specs.Checked.{Opens, Refuses}
+use Rattle.format.specs.Meaning.{LetsThrough, Refuses}
 use Rattle.exact.specs.Meaning.{or_else}
 use Rattle.exact.specs.Refusals.{met}
 use Rattle.exact.specs.Signs.{one_word}
@@ -36,7 +36,7 @@ module _ {A : Type 0} (c : Kind A) where
   unfolding settle with_sign
   word_wrapped w x p = p ∙ ap (λ (z : ℤ). answered c (done (wrap c.sign w z) false)) (one_word false x)
 
-  pub opened : {n w f v g x y : ℕ} {r : Answered A} → Opens n w f v g → x ≡ y → r ≡ answered c (done (wrap c.sign v (pos x)) false)
+  pub opened : {n w f v g x y : ℕ} {r : Answered A} → LetsThrough n w f v g → x ≡ y → r ≡ answered c (done (wrap c.sign v (pos x)) false)
       → r ≡ answered c (unless n (done (wrap c.sign w (pos y)) false))
   opened {n} {w} {y = y} o e p =
       pass-answered c n (done (wrap c.sign w (pos y)) false) o.free

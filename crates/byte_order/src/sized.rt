@@ -1,7 +1,6 @@
 // The format of a call that names a number of bytes: the format's refusals first, then 5.
 ghost use Rattle.std.specs.Prelude.{◌≡◌, ◌/◌, cond, IfOk, IfErr};
-ghost use Rattle.format.specs.Meaning.{fault_of};
-ghost use Rattle.format.specs.Checked.{Opens, Refuses};
+ghost use Rattle.format.specs.Meaning.{fault_of, LetsThrough, Refuses};
 ghost use Rattle.exact.specs.Meaning.{or_else};
 ghost use Rattle.byte_order.specs.Meaning.{buffer_fault, length_fault};
 
@@ -16,7 +15,8 @@ pub(crate) fn size(width: u32) -> usize
 
 // Where a raw's bytes have room in len places.
 pub(crate) fn at_most(width: u32, frac: u32, len: usize) -> Result<Format, Refusal>
-    ensures ok { IfOk result (λ x. Opens (or_else (fault_of width frac) (buffer_fault width len)) width frac x.width x.frac) }
+    ensures ok { IfOk result (λ x.
+        LetsThrough (or_else (fault_of width frac) (buffer_fault width len)) width frac x.width x.frac) }
     ensures err { IfErr result (Refuses (or_else (fault_of width frac) (buffer_fault width len))) }
 {
     met(width, frac, size(width) <= len)
@@ -24,14 +24,16 @@ pub(crate) fn at_most(width: u32, frac: u32, len: usize) -> Result<Format, Refus
 
 // Where len bytes are a raw's.
 pub(crate) fn exactly(width: u32, frac: u32, len: usize) -> Result<Format, Refusal>
-    ensures ok { IfOk result (λ x. Opens (or_else (fault_of width frac) (length_fault width len)) width frac x.width x.frac) }
+    ensures ok { IfOk result (λ x.
+        LetsThrough (or_else (fault_of width frac) (length_fault width len)) width frac x.width x.frac) }
     ensures err { IfErr result (Refuses (or_else (fault_of width frac) (length_fault width len))) }
 {
     met(width, frac, len == size(width))
 }
 
 fn met(width: u32, frac: u32, right: bool) -> Result<Format, Refusal>
-    ensures ok { IfOk result (λ x. Opens (or_else (fault_of width frac) (cond right 0 5)) width frac x.width x.frac) }
+    ensures ok { IfOk result (λ x.
+        LetsThrough (or_else (fault_of width frac) (cond right 0 5)) width frac x.width x.frac) }
     ensures err { IfErr result (Refuses (or_else (fault_of width frac) (cond right 0 5))) }
 {
     let format = Format::new(width, frac)?;

@@ -11,7 +11,7 @@ use borrow.Author.Tests.{eqb-true, eqb-false, ne_eqb}
 use Rattle.decimal.specs.Meaning.{byte_of, fraction_by, fraction_digits, fraction_text}
 use Rattle.decimal.specs.Digits.{mod-scale, fraction-scale, ends-start, ends-scale}
 use Rattle.decimal.specs.Layout.{Ends, word_text}
-use Rattle.format.specs.Width.{is_width}
+use Rattle.format.specs.Meaning.{is_width}
 use Rattle.format.specs.Fault.{width-bounds}
 use Rattle.std.proofs.Math.Nat.{div-eq_of_lt}
 use Rattle.std.specs.Prelude.{Option, Some, None}

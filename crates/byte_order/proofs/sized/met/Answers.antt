@@ -1,7 +1,7 @@
 -- `byte_order::sized::met` meets its contract: the format first, then the number of bytes. Assumes nothing.
 use Rattle.std.proofs.Common.{arith, refl}
 use Rattle.std.proofs.lemmas.Result.{err_from_is_err_and}
-use Rattle.format.specs.Refusal.{named}
+use Rattle.format.specs.Meaning.{named}
 use Rattle.exact.specs.Refusals.{refuses-first, refuses-second, opens-both}
 use Rattle.byte_order.proofs.sized.met.Goals as goal
 
