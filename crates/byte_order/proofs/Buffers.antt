@@ -9,9 +9,8 @@ use Rattle.laws.specs.Diff.{up}
 use Rattle.format.specs.declared.Answer.{Answer}
 use Rattle.format.specs.declared.Manner.TheVariants.{Wrapping}
 use Rattle.format.specs.declared.refusal.Refusal.{Refusal}
-use Rattle.format.specs.Meaning.{Kind, unsigned_kind, unsigned, Answered, answered, fault_of, unless, settle, wrap, done, with_sign}
+use Rattle.format.specs.Meaning.{Kind, unsigned_kind, unsigned, Answered, answered, fault_of, unless, settle, wrap, done, with_sign, LetsThrough, Refuses}
 use Rattle.format.specs.Answer.{pass-answered, exit-answered}
-use Rattle.format.specs.Meaning.{LetsThrough, Refuses}
 use Rattle.exact.specs.Meaning.{or_else}
 use Rattle.exact.specs.Refusals.{met}
 use Rattle.exact.specs.Signs.{one_word}

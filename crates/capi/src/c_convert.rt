@@ -25,7 +25,8 @@ pub extern "C" fn tq_convert_signed_to_signed(
         width,
         frac,
         answer::manner(manner),
-    ).into()
+    )
+    .into()
 }
 
 #[unsafe(no_mangle)]
@@ -46,7 +47,8 @@ pub extern "C" fn tq_convert_signed_to_unsigned(
         width,
         frac,
         answer::manner(manner),
-    ).into()
+    )
+    .into()
 }
 
 #[unsafe(no_mangle)]
@@ -67,7 +69,8 @@ pub extern "C" fn tq_convert_unsigned_to_signed(
         width,
         frac,
         answer::manner(manner),
-    ).into()
+    )
+    .into()
 }
 
 #[unsafe(no_mangle)]
@@ -88,5 +91,6 @@ pub extern "C" fn tq_convert_unsigned_to_unsigned(
         width,
         frac,
         answer::manner(manner),
-    ).into()
+    )
+    .into()
 }

@@ -20,7 +20,11 @@ pub extern "C" fn tq_settle_signed(
 ) -> CSigned
     ensures { Signed (Settle signed_kind (some_of neg) high low width frac (manner_of manner)) result }
 {
-    let x = Exact { neg: neg != 0, high, low };
+    let x = Exact {
+        neg: neg != 0,
+        high,
+        low,
+    };
     format::settle::<i64>(x, width, frac, answer::manner(manner)).into()
 }
 
@@ -35,6 +39,10 @@ pub extern "C" fn tq_settle_unsigned(
 ) -> CUnsigned
     ensures { Unsigned (Settle unsigned_kind (some_of neg) high low width frac (manner_of manner)) result }
 {
-    let x = Exact { neg: neg != 0, high, low };
+    let x = Exact {
+        neg: neg != 0,
+        high,
+        low,
+    };
     format::settle::<u64>(x, width, frac, answer::manner(manner)).into()
 }

@@ -9,10 +9,8 @@ use Rattle.laws.specs.Diff.{orders}
 use Rattle.laws.specs.Tests.{lt-lt_z, le-lt_z}
 use Rattle.format.specs.declared.refusal.Refusal.{Refusal}
 use Rattle.format.specs.declared.refusal.Refusal.TheVariants.{WrongLength}
-use Rattle.format.specs.Meaning.{named}
-use Rattle.format.specs.Meaning.{unsigned_kind, Answered, answered, refused, fault_of, unless}
+use Rattle.format.specs.Meaning.{named, unsigned_kind, Answered, answered, refused, fault_of, unless, Refuses}
 use Rattle.format.specs.Answer.{exit-answered}
-use Rattle.format.specs.Meaning.{Refuses}
 use Rattle.format.specs.Settle.{unless-fault, unless-none}
 use Rattle.decimal.specs.Meaning.{text_of, raw_text, put, buffer_after, write_of, left_of}
 

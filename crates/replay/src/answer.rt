@@ -13,7 +13,13 @@ pub(crate) struct Stored {
 // Whether the answer is another.
 pub(crate) fn differs<R: Raw>(stored: Stored, answered: Answered<R>) -> bool {
     match answered {
-        Ok(answer) => other(stored, 0, answer.flag, answer.raw.is_below(), answer.raw.magnitude()),
+        Ok(answer) => other(
+            stored,
+            0,
+            answer.flag,
+            answer.raw.is_below(),
+            answer.raw.magnitude(),
+        ),
         Err(refusal) => other(stored, refusal.number(), false, false, 0),
     }
 }

@@ -44,7 +44,11 @@ impl Text {
 }
 
 fn pair(high: u8, low: u8) -> u8 {
-    if high < 16 && low < 16 { high * 16 + low } else { 0 }
+    if high < 16 && low < 16 {
+        high * 16 + low
+    } else {
+        0
+    }
 }
 
 fn value(b: u8) -> u8 {

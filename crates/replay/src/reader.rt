@@ -22,8 +22,14 @@ pub(crate) fn plain(line: &Line) -> bool {
     let radix = line.numbers[RADIX].small();
     let manner = manner(line.numbers[MANNER].size);
     match line.numbers[SIGNED].size {
-        0 => answer::differs(stored(line), text::read::<u64>(text, width, frac, radix, manner)),
-        1 => answer::differs(stored(line), text::read::<i64>(text, width, frac, radix, manner)),
+        0 => answer::differs(
+            stored(line),
+            text::read::<u64>(text, width, frac, radix, manner),
+        ),
+        1 => answer::differs(
+            stored(line),
+            text::read::<i64>(text, width, frac, radix, manner),
+        ),
         _ => true,
     }
 }

@@ -30,7 +30,8 @@ pub(crate) fn whole(rt: &impl Print, refusal: Refusal) -> io::Result<()> {
 
 fn file_fault(refusal: Refusal) -> &'static str {
     match refusal {
-        Refusal::TooLong => "the file is above 16384 bytes; give a fitting file, or take out comments",
+        Refusal::TooLong =>
+            "the file is above 16384 bytes; give a fitting file, or take out comments",
         Refusal::WrongTaps => "the file holds no value; write one number on a line, such as 0.5",
         Refusal::TooManyValues =>
             "the file holds more than 64 values; give a fitting file of at most 64 taps, one on a line",

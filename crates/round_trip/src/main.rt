@@ -2,49 +2,42 @@
 // promises alone, for every format, raw and manner.
 #![tactic(auto)]
 
-mod signed;
-mod unsigned;
+mod again;
 
-use format::{Manner, SignedAnswer, UnsignedAnswer};
+use format::{Answered, Manner, Raw};
 use std::io;
 
 fn main(rt: HostRuntime) -> io::Result<()> {
     let mut out = [0u8; 67];
-    show(&rt, signed::again(1, 16, 15, Manner::Strict, &mut out))?;
-    show(&rt, signed::again(-32768, 16, 15, Manner::Strict, &mut out))?;
+    show(&rt, again::again(1i64, 16, 15, Manner::Strict, &mut out))?;
     show(
         &rt,
-        signed::again(-9223372036854775808, 64, 64, Manner::Wrapping, &mut out),
+        again::again(-32768i64, 16, 15, Manner::Strict, &mut out),
     )?;
-    show(&rt, signed::again(127, 8, 9, Manner::Strict, &mut out))?;
-    show_unsigned(
+    show(
         &rt,
-        unsigned::again(18446744073709551615, 64, 64, Manner::Saturating, &mut out),
+        again::again(-9223372036854775808i64, 64, 64, Manner::Wrapping, &mut out),
     )?;
-    show_unsigned(
+    show(&rt, again::again(127i64, 8, 9, Manner::Strict, &mut out))?;
+    show(
         &rt,
-        unsigned::again(255, 8, 3, Manner::Overflowing, &mut out),
+        again::again(
+            18446744073709551615u64,
+            64,
+            64,
+            Manner::Saturating,
+            &mut out,
+        ),
+    )?;
+    show(
+        &rt,
+        again::again(255u64, 8, 3, Manner::Overflowing, &mut out),
     )
 }
 
-fn show(rt: &impl Print, a: SignedAnswer) -> io::Result<()> {
-    match a {
-        SignedAnswer::Done { raw, flag: _ } => read(rt, format::signed::magnitude(raw)),
-        SignedAnswer::Refused(n) => refused(rt, n),
+fn show<R: Raw>(rt: &impl Print, answered: Answered<R>) -> io::Result<()> {
+    match answered {
+        Ok(answer) => println!(rt; "{} again", answer.raw.magnitude()),
+        Err(refusal) => println!(rt; "{} refused", refusal.number()),
     }
-}
-
-fn show_unsigned(rt: &impl Print, a: UnsignedAnswer) -> io::Result<()> {
-    match a {
-        UnsignedAnswer::Done { raw, flag: _ } => read(rt, raw),
-        UnsignedAnswer::Refused(n) => refused(rt, n),
-    }
-}
-
-fn read(rt: &impl Print, magnitude: u64) -> io::Result<()> {
-    println!(rt; "{magnitude} again")
-}
-
-fn refused(rt: &impl Print, n: u32) -> io::Result<()> {
-    println!(rt; "{n} refused")
 }

@@ -11,8 +11,7 @@ use Rattle.format.specs.declared.Manner.{Manner}
 use Rattle.format.specs.declared.Manner.TheVariants.{Strict}
 use Rattle.format.specs.declared.refusal.Refusal.{Refusal}
 use Rattle.format.specs.declared.refusal.Refusal.TheVariants.{WrongRadix, TooLong}
-use Rattle.format.specs.Meaning.{Sign, Kind, Answered, Outcome, refused, unless, fault_of, is_width, settle, with_sign, exact, guarded, answered, number, named}
-use Rattle.format.specs.Checked.{Opens, Refuses}
+use Rattle.format.specs.Meaning.{Sign, Kind, Answered, Outcome, refused, unless, fault_of, is_width, settle, with_sign, exact, guarded, answered, number, named, LetsThrough, Refuses}
 use Rattle.format.specs.Answer.{exit-answered, pass-answered, refused-answered, named-number}
 use Rattle.format.specs.Fault.{fault-free, width-bounds}
 use Rattle.grammar.specs.Meaning.{Reading, plain_reading, literal_body, literal_radix, literal_reading, raw_of, outcome_of, is_radix, text_limit, read_of, literal_of}
@@ -94,8 +93,8 @@ module _ (w f radix n : ℕ) where
   unfolding early_plain
   early-length z q h r = rw (z, sym q ∙ h) r
 
-  pub early-opens : {g : Bool} {v h : ℕ} → Opens (fault_of w f) w f v h → g ≡ is_radix radix → g ≡ true → text_fault n ≡ 0
-      → Opens (early_plain w f radix n) w f v h
+  pub early-opens : {g : Bool} {v h : ℕ} → LetsThrough (fault_of w f) w f v h → g ≡ is_radix radix → g ≡ true → text_fault n ≡ 0
+      → LetsThrough (early_plain w f radix n) w f v h
   unfolding early_plain
   early-opens o q h l = record { free = rw (o.free, sym q ∙ h) l; width_is = o.width_is; frac_is = o.frac_is }
 
@@ -108,7 +107,7 @@ module _ (w f n : ℕ) where
   unfolding early_literal
   literal-length z r = rw z r
 
-  pub literal-opens : {v h : ℕ} → Opens (fault_of w f) w f v h → text_fault n ≡ 0 → Opens (early_literal w f n) w f v h
+  pub literal-opens : {v h : ℕ} → LetsThrough (fault_of w f) w f v h → text_fault n ≡ 0 → LetsThrough (early_literal w f n) w f v h
   unfolding early_literal
   literal-opens o l = record { free = rw o.free l; width_is = o.width_is; frac_is = o.frac_is }
 
@@ -168,13 +167,13 @@ pub literal-found : (s : Sign) (t : List ℕ) {r : LiteralWritten} {x : Found} �
 literal-found s t h e = subst (λ (x : Found). Finds t x (literal_reading s t)) e h.found
 
 module _ (w f : ℕ) (t : List ℕ) {v g : ℕ} where
-  pub plain-readable : (radix : ℕ) {p : Parsed} → Opens (early_plain w f radix (length t)) w f v g → Finds t (Ok p) (plain_reading radix t)
+  pub plain-readable : (radix : ℕ) {p : Parsed} → LetsThrough (early_plain w f radix (length t)) w f v g → Finds t (Ok p) (plain_reading radix t)
       → Readable t p radix g
   plain-readable radix {p} o h =
       let fine = plain-fine w f radix (length t) o.free in
       subst (λ (n : ℕ). Readable t p radix n) (sym o.frac_is) (found-readable t radix f fine.1 fine.0.short fine.0.room (plain-says radix t) h)
 
-  pub literal-readable : (s : Sign) {p : Parsed} {r : LiteralWritten} → Opens (early_literal w f (length t)) w f v g → FindsLiteral s t r
+  pub literal-readable : (s : Sign) {p : Parsed} {r : LiteralWritten} → LetsThrough (early_literal w f (length t)) w f v g → FindsLiteral s t r
       → r.found ≡ Ok p → Readable t p r.radix g
   literal-readable s {p} {r} o h e =
       let fine = literal-fine w f (length t) o.free in
@@ -217,7 +216,7 @@ module _ {A : Type 0} (c : Kind A) (k : Manner) (w f radix : ℕ) (t : List ℕ)
       ∙ ap (answered c) meant
 
   -- and where a number was found
-  pub read-number : {v g : ℕ} {p : Parsed} → Opens n w f v g → Finds t (Ok p) y → r ≡ answered c (number_outcome k c.sign v g radix t p) → r ≡ answered c o
+  pub read-number : {v g : ℕ} {p : Parsed} → LetsThrough n w f v g → Finds t (Ok p) y → r ≡ answered c (number_outcome k c.sign v g radix t p) → r ≡ answered c o
   read-number {v} {g} {p} u h q =
       pass-answered c n (outcome_of k c.sign w f radix y) u.free
       (q ∙ ap (λ (j : ℕ). answered c (number_outcome k c.sign j g radix t p)) u.width_is

@@ -16,13 +16,7 @@ mod early;
 mod magnitude;
 
 // The plain reader: a text in a radix, in a manner.
-pub fn read<R: Raw>(
-    text: &[u8],
-    width: u32,
-    frac: u32,
-    radix: u32,
-    manner: Manner,
-) -> Answered<R>
+pub fn read<R: Raw>(text: &[u8], width: u32, frac: u32, radix: u32, manner: Manner) -> Answered<R>
     ensures { Read R.kind text.now width frac radix manner result }
 {
     let format = early::plain(width, frac, radix, text.len())?;
