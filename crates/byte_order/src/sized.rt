@@ -15,7 +15,8 @@ pub(crate) fn size(width: u32) -> usize
 
 // Where a raw's bytes have room in len places.
 pub(crate) fn at_most(width: u32, frac: u32, len: usize) -> Result<Format, Refusal>
-    ensures ok { IfOk result (λ x. LetsThrough (or_else (fault_of width frac) (buffer_fault width len)) width frac x.width x.frac) }
+    ensures ok { IfOk result (λ x.
+        LetsThrough (or_else (fault_of width frac) (buffer_fault width len)) width frac x.width x.frac) }
     ensures err { IfErr result (Refuses (or_else (fault_of width frac) (buffer_fault width len))) }
 {
     met(width, frac, size(width) <= len)
@@ -23,14 +24,16 @@ pub(crate) fn at_most(width: u32, frac: u32, len: usize) -> Result<Format, Refus
 
 // Where len bytes are a raw's.
 pub(crate) fn exactly(width: u32, frac: u32, len: usize) -> Result<Format, Refusal>
-    ensures ok { IfOk result (λ x. LetsThrough (or_else (fault_of width frac) (length_fault width len)) width frac x.width x.frac) }
+    ensures ok { IfOk result (λ x.
+        LetsThrough (or_else (fault_of width frac) (length_fault width len)) width frac x.width x.frac) }
     ensures err { IfErr result (Refuses (or_else (fault_of width frac) (length_fault width len))) }
 {
     met(width, frac, len == size(width))
 }
 
 fn met(width: u32, frac: u32, right: bool) -> Result<Format, Refusal>
-    ensures ok { IfOk result (λ x. LetsThrough (or_else (fault_of width frac) (cond right 0 5)) width frac x.width x.frac) }
+    ensures ok { IfOk result (λ x.
+        LetsThrough (or_else (fault_of width frac) (cond right 0 5)) width frac x.width x.frac) }
     ensures err { IfErr result (Refuses (or_else (fault_of width frac) (cond right 0 5))) }
 {
     let format = Format::new(width, frac)?;
