@@ -163,7 +163,7 @@ def settled(crate, row):
         laws = [law for span in spans(said[0]) for law in spelled(span)] if said else []
         if said and said[0].startswith("an equation"):
             ensures = clauses(contract, "ensures")
-            see(ensures and all(re.match(r"result(\.now)? ≡ |\w+\.new ≡ ", one) for one in ensures), f"docs/promises/{crate.name}.md: the contract of {full} is no equation")
+            see(ensures and all(re.match(r"(\w+ )?(result(\.now)?|\w+\.new) ≡ ", one) for one in ensures), f"docs/promises/{crate.name}.md: the contract of {full} is no equation")
         else:
             opened = said and said[0].startswith("open:")
             see((laws or opened) and all(law in declared for law in laws), f"docs/promises/{crate.name}.md: what settles the answer of {full}? ({said})")

@@ -21,8 +21,8 @@ pub record Fine (s : Sign) (raw : ℤ) (w f : ℕ) (out : List ℕ) : Type 0 whe
 
 module _ {A : Type 0} (c : Kind A) where
   -- then: the raw again, which is the raw of its number
-  abbrev pub Same : A → ℕ → ℕ → List ℕ → Answered A → Type 0
-  Same raw w f out r = Fine c.sign (c.number_of raw) w f out → r ≡ Ok (record { raw = c.raw_of (c.number_of raw); flag = false })
+  abbrev pub SameRaw : A → ℕ → ℕ → List ℕ → Answered A → Type 0
+  SameRaw raw w f out r = Fine c.sign (c.number_of raw) w f out → r ≡ Ok (record { raw = c.raw_of (c.number_of raw); flag = false })
 
   -- the first n bytes, or all
   abbrev pub ReadBack : List ℕ → ℕ → ℕ → ℕ → Manner → Answered A → Type 0
@@ -30,12 +30,12 @@ module _ {A : Type 0} (c : Kind A) where
 
 module _ {A : Type 0} (c : Kind A) (raw : A) (w f : ℕ) (out : List ℕ) {a : Answered ℕ} {left : List ℕ} (p : Write c raw w f out a left) where
   pub read_again : (k : Manner) {n : ℕ} {flag : Bool} {r : Answered A} → a ≡ Ok (record { raw = n; flag = flag }) → ReadBack c left n w f k r
-      → Same c raw w f out r
+      → SameRaw c raw w f out r
   unfolding answered
   read_again k {n} {flag} e q fine =
       q ∙ ap (answered c) (written-reads c raw w f out left n flag k c.sign (subst (λ (x : Answered ℕ). Write c raw w f out x left) e p) fine.holds)
 
-  pub never-refused : {e : Refusal} {r : Answered A} → a ≡ Err e → Same c raw w f out r
+  pub never-refused : {e : Refusal} {r : Answered A} → a ≡ Err e → SameRaw c raw w f out r
   unfolding write_of put guarded answered
   never-refused {e} h fine =
       let clash : ◌≡◌ {A = Answered ℕ} (Err e) (Ok (record { raw = length (raw_text (c.number_of raw) f); flag = false })) = sym h ∙ p.0

@@ -1,11 +1,11 @@
 // Writing a raw of a format, then reading: the same raw.
-ghost use Rattle.round_trip.specs.Again.{Same, ReadBack};
+ghost use Rattle.round_trip.specs.Again.{SameRaw, ReadBack};
 
 use format::{Answered, Manner, Raw};
 
 // The raw written into `out` and read back; the writer's refusal where it refuses.
 pub fn again<R: Raw>(raw: R, width: u32, frac: u32, manner: Manner, out: &mut [u8]) -> Answered<R>
-    ensures { Same R.kind raw width frac out.old result }
+    ensures { SameRaw R.kind raw width frac out.old result }
 {
     let written = decimal::write(raw, width, frac, out)?;
     read_back(out, written.raw, width, frac, manner)
