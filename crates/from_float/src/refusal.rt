@@ -8,7 +8,7 @@ use float::pattern::Binary;
 use format::{Manner, Refusal};
 
 // An infinity or a NaN: E is the last one there is.
-#[tactic(auto, unfolding(crate::specs::Parts::pattern_fault, format::specs::Refusal::named))]
+#[tactic(auto, unfolding(crate::specs::Parts::pattern_fault, format::specs::Meaning::named))]
 pub(crate) fn of_pattern(binary: Binary, pattern: u64, manner: Manner) -> Result<(), Refusal>
     ensures ok { IfOk result (λ x. pattern_fault (binary_of binary) manner pattern ≡ 0) }
     ensures err { IfErr result (Refuses (pattern_fault (binary_of binary) manner pattern)) }
@@ -22,7 +22,7 @@ pub(crate) fn of_pattern(binary: Binary, pattern: u64, manner: Manner) -> Result
     Ok(())
 }
 
-#[tactic(auto, unfolding(crate::specs::Parts::infinite_fault, format::specs::Refusal::named))]
+#[tactic(auto, unfolding(crate::specs::Parts::infinite_fault, format::specs::Meaning::named))]
 fn of_infinity(manner: Manner) -> Result<(), Refusal>
     ensures ok { IfOk result (λ x. infinite_fault manner ≡ 0) }
     ensures err { IfErr result (Refuses (infinite_fault manner)) }
