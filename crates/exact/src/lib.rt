@@ -14,7 +14,7 @@ use wide::Wide;
 
 pub mod operand;
 
-// An operand.
+// An operand: its sign, and its magnitude.
 #[derive(Clone, Copy)]
 pub struct Number {
     pub neg: bool,

@@ -11,6 +11,7 @@ use wide::Wide;
 
 pub mod body;
 
+// Both parts count wherever it is past a word, so it is no Option: a wrapped raw is made of `low`.
 #[derive(Clone, Copy)]
 pub struct Folded {
     pub low: u64,
