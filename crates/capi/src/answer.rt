@@ -1,5 +1,5 @@
-// Answers and manners as C has them: numbers in place of enums. The two structs stand apart, since an export may return none
-// with a type parameter.
+// Answers and manners as C has them: numbers in place of enums. The two structs stand apart, since an export may
+// return none with a type parameter.
 ghost use Rattle.std.specs.Prelude.{◌≡◌};
 ghost use Rattle.capi.specs.Meaning.{signed_of, unsigned_of, manner_of};
 

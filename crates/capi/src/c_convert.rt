@@ -38,7 +38,8 @@ pub extern "C" fn tq_convert_signed_to_unsigned(
     frac: u32,
     manner: u32,
 ) -> CUnsigned
-    ensures { Unsigned (Convert signed_kind unsigned_kind raw from_width from_frac width frac (manner_of manner)) result }
+    ensures { Unsigned (Convert signed_kind unsigned_kind
+        raw from_width from_frac width frac (manner_of manner)) result }
 {
     convert::convert::<i64, u64>(
         raw,
@@ -82,7 +83,8 @@ pub extern "C" fn tq_convert_unsigned_to_unsigned(
     frac: u32,
     manner: u32,
 ) -> CUnsigned
-    ensures { Unsigned (Convert unsigned_kind unsigned_kind raw from_width from_frac width frac (manner_of manner)) result }
+    ensures { Unsigned (Convert unsigned_kind unsigned_kind
+        raw from_width from_frac width frac (manner_of manner)) result }
 {
     convert::convert::<u64, u64>(
         raw,

@@ -1,5 +1,5 @@
-// The C interface: each function calls one public function of the library and copies its answer (include/tamqoret.h). C has a
-// name for each sign, so each function that stands once for every raw is exported twice.
+// The C interface: each function calls one public function of the library and copies its answer (include/tamqoret.h).
+// C has a name for each sign, so each function that stands once for every raw is exported twice.
 #![tactic(auto)]
 
 mod answer;

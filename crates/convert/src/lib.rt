@@ -29,7 +29,8 @@ pub fn convert<S: source::Source, T: Raw>(
 
 // The format to convert to: 1 where either width is none, before 2 where either has more fraction bits than its width.
 fn formats(from_width: u32, from_frac: u32, width: u32, frac: u32) -> Result<Format, Refusal>
-    ensures ok { IfOk result (λ x. LetsThrough (formats_fault from_width from_frac width frac) width frac x.width x.frac) }
+    ensures ok { IfOk result
+        (λ x. LetsThrough (formats_fault from_width from_frac width frac) width frac x.width x.frac) }
     ensures err { IfErr result (Refuses (formats_fault from_width from_frac width frac)) }
 {
     if !format::is_width(from_width) || !format::is_width(width) {

@@ -1,5 +1,5 @@
-// Sums, differences and products of raws. For signed ones a word holds those of the narrow widths, so that there is no branch on
-// a sign; the rest goes by sign and magnitude.
+// Sums, differences and products of raws. For signed ones a word holds those of the narrow widths, so that there is no
+// branch on a sign; the rest goes by sign and magnitude.
 ghost use Rattle.std.specs.Prelude.{◌≡◌, ◌^◌, neg_ℤ, ◌+ℤ◌, ◌*ℤ◌};
 ghost use Rattle.laws.specs.Floor.{floor as floor_of};
 ghost use Rattle.exact.specs.Meaning.{exact_of};

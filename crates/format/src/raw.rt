@@ -1,5 +1,5 @@
-// A raw in the code: an i64 in a signed format, a u64 in an unsigned one. What the two differ in, for a format to settle a
-// number and for the arithmetic above to take one apart; everything else stands once for both.
+// A raw in the code: an i64 in a signed format, a u64 in an unsigned one. What the two differ in, for a format to
+// settle a number and for the arithmetic above to take one apart; everything else stands once for both.
 ghost use Rattle.std.specs.Prelude.{◌≡◌, ◌≤◌, ◌<◌, ◌^◌, pos};
 ghost use Rattle.std.specs.Int.{w64};
 ghost use Rattle.std.specs.Int.Signed.{lt_z};

@@ -1,5 +1,5 @@
-// A format that is known to be one of 01's: every function that settles a number takes it in place of a width. Public entries
-// take the two numbers beside the manner, since it is they that refuse what is no format.
+// A format that is known to be one of 01's: every function that settles a number takes it in place of a width. Public
+// entries take the two numbers beside the manner, since it is they that refuse what is no format.
 ghost use Rattle.std.specs.Prelude.{◌≡◌, true, ◌≤◌};
 ghost use Rattle.format.specs.Meaning.{is_width};
 

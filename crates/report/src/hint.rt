@@ -1,5 +1,5 @@
-// A refused line in words: what its answer means, and what to write instead. Answers are numbers here, as the list has them that
-// C lends.
+// A refused line in words: what its answer means, and what to write instead. Answers are numbers here, as the list has
+// them that C lends.
 
 pub(crate) fn meaning(inner: u32) -> &'static str {
     match inner {

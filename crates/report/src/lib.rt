@@ -55,8 +55,8 @@ fn opened(rt: &(impl Print + Eprint), file: &mut impl Read, name: &[u8]) -> io::
     bytes(rt, &buf[..n])
 }
 
-// Reads until the buffer is full, the file ends or reading fails; how many bytes came. What reads to the end in std fills a
-// Vec, and nothing here is on the heap.
+// Reads until the buffer is full, the file ends or reading fails; how many bytes came. What reads to the end in std
+// fills a Vec, and nothing here is on the heap.
 fn fill(file: &mut impl Read, buf: &mut [u8]) -> usize
     ensures { result ≤ length buf.new }
 {

@@ -72,8 +72,8 @@ pub fn sub(x: Wide, y: Wide) -> Wide
     }
 }
 
-// Whether x is below y: the upper words decide, and the lower ones where those are equal. A derived order says the same of
-// the two fields, and each caller would owe the lemma that it is that of the numbers.
+// Whether x is below y: the upper words decide, and the lower ones where those are equal. A derived order says the
+// same of the two fields, and each caller would owe the lemma that it is that of the numbers.
 pub fn less(x: Wide, y: Wide) -> bool
     ensures { Less x y result }
 {
