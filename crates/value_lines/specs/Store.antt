@@ -1,12 +1,11 @@
--- The list as the loop has it: what one line adds, what stands in the list once the lines before a place are through, and the laws of the start,
--- of one line more and of the end. Assumes nothing.
-use Rattle.std.specs.Prelude.{◌≡◌, refl, true, false, cond, List, map, ℕ, ◌+◌, ◌≤◌, ℤ, length, drop, set}
-use Rattle.std.proofs.Common.{arith}
+-- The list as the loop has it: what one line adds, what stands in the list once some lines are through, and the law of the start. Assumes nothing.
+use Rattle.std.specs.Prelude.{◌≡◌, true, false, cond, List, map, ℕ, ◌+◌, ◌≤◌, ℤ, length, drop, set}
+use Rattle.std.proofs.Common.{sym, arith}
 use Rattle.laws.specs.Unique.{unique}
 use Rattle.value_lines.specs.declared.line.Value.{Value}
-use Rattle.value_lines.specs.Meaning.{is_value, ValueLine, values_of, line_number, raw_at, number_at, over}
+use Rattle.value_lines.specs.Meaning.{is_value, ValueLine, values_from, values_of, line_number, raw_at, number_at, over}
 use Rattle.value_lines.specs.Held.{Held, held_none}
-use Rattle.value_lines.specs.Lines.{values_at}
+use Rattle.value_lines.specs.Lines.{parts_of, parts-values}
 use Rattle.value_lines.specs.Literal.{line_value}
 
 -- what one line adds: nothing, or its number, raw and answer in place n
@@ -38,24 +37,20 @@ pub all-entered-unique : {vs : List ValueLine} {lines : List ℕ} {raws : List �
 all-entered-unique p q =
     (unique p.lines_are q.lines_are, (unique p.raws-are q.raws-are, unique p.answers-are q.answers-are))
 
--- the lines before place `at` are through: `number` lines, n of them values
-pub record SoFar (file lines : List ℕ) (raws : List ℤ) (answers lines' : List ℕ) (raws' : List ℤ) (answers' : List ℕ) (n number at : ℕ) : Type 0 where
-  pub place : at ≤ length file + 1
-  pub numbered : number ≤ at
+-- `number` lines are through, n of them values
+pub record SoFar (file lines : List ℕ) (raws : List ℤ) (answers lines' : List ℕ) (raws' : List ℤ) (answers' : List ℕ) (n number : ℕ) : Type 0 where
   pub few : n ≤ length (values_of file)
-  pub left : drop n (values_of file) ≡ values_at file at (number + 1)
+  pub left : drop n (values_of file) ≡ values_from (number + 1) (drop number (parts_of file))
   pub lines-hold : Held (map line_number (values_of file)) n lines lines'
   pub raws-hold : Held (map raw_at (values_of file)) n raws raws'
   pub answers-hold : Held (map number_at (values_of file)) n answers answers'
 
-pub start : (file lines : List ℕ) (raws : List ℤ) (answers : List ℕ) → SoFar file lines raws answers lines raws answers 0 0 0
+pub start : (file lines : List ℕ) (raws : List ℤ) (answers : List ℕ) → SoFar file lines raws answers lines raws answers 0 0
 unfolding values_of
 start file lines raws answers =
     record {
-      place = omega arith;
-      numbered = omega arith;
       few = omega arith;
-      left = refl;
+      left = sym (parts-values 1 file);
       lines-hold = held_none _ _;
       raws-hold = held_none _ _;
       answers-hold = held_none _ _;

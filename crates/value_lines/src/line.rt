@@ -1,12 +1,9 @@
-// One line of the file: where it ends, whether it holds a value, and what the literal reader makes of it.
-ghost use Rattle.std.specs.Prelude.{◌≡◌, ◌≤◌, length, drop};
+// One line of the file: whether it holds a value, and what the literal reader makes of it.
+ghost use Rattle.std.specs.Prelude.{◌≡◌};
 ghost use Rattle.value_lines.specs.Meaning.{is_value};
-ghost use Rattle.value_lines.specs.Lines.{first_line};
 ghost use Rattle.value_lines.specs.Literal.{line_value};
 
 use format::SignedAnswer;
-
-const LINE_FEED: u8 = 10;
 
 const COMMENT: u8 = 35;
 
@@ -22,29 +19,14 @@ pub(crate) struct Value {
     pub answer: u32,
 }
 
-// The line that starts at a place: a part of the file.
-pub(crate) fn line_at(file: &[u8], from: usize) -> &[u8]
-    requires { from ≤ length file.now }
-    ensures { result.now ≡ first_line (drop from file.now) }
-{
-    let mut end = from;
-    while end < file.len() {
-        if file[end] == LINE_FEED {
-            return &file[from..end];
-        }
-        end += 1;
-    }
-    &file[from..end]
-}
-
 // Neither empty nor a comment.
 pub(crate) fn is_value(line: &[u8]) -> bool
     ensures { result ≡ is_value line.now }
 {
-    if line.len() == 0 {
-        return false;
+    match line {
+        [] => false,
+        [first, ..] => *first != COMMENT,
     }
-    line[0] != COMMENT
 }
 
 // The literal of a line. A strict raw of 16 bits loses nothing as one.
