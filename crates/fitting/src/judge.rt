@@ -12,7 +12,10 @@ pub fn judge(lines: &[u32], answers: &[u32], values: u32) -> FileAnswer
     ensures { result ≡ judged_of values (take values lines.now) (take values answers.now) }
 {
     let n = values as usize;
-    let refused = lines[..n].iter().zip(&answers[..n]).find(|(_, inner)| **inner != 0);
+    let refused = lines[..n]
+        .iter()
+        .zip(&answers[..n])
+        .find(|(_, inner)| **inner != 0);
     match refused {
         Some((line, inner)) => FileAnswer::Line {
             line: *line,

@@ -1,15 +1,27 @@
--- One line more in the list, and its end: where some lines are through, so is the next, and at the end of the file all.
+-- The list at the start, with one line more and at the end: where some lines are through, so is the next, and at the end of the file all.
 -- Assumes nothing.
 use Rattle.std.specs.Prelude.{◌≡◌, refl, Bool, true, false, cond, List, [], ◌∷◌, map, ℕ, ◌+◌, ◌≤◌, ◌<◌, ℤ, length, drop, get_or, set}
 use Rattle.std.proofs.Common.{sym, ap, ◌∙◌, arith, length-drop, get_or-drop, drop-drop, drop_of_length-le}
 use Rattle.std.proofs.lemmas.List.{length-map}
 use Rattle.std.proofs.Math.ListN.{get_or-map}
 use Rattle.value_lines.specs.Meaning.{is_value, ValueLine, value_line, values_from, values_of, line_number, raw_at, number_at}
-use Rattle.value_lines.specs.Held.{Held, held_more, held_all}
+use Rattle.value_lines.specs.Held.{Held, held_none, held_more, held_all}
 use Rattle.value_lines.specs.Lines.{parts_of}
-use Rattle.value_lines.proofs.Lines.{at_value, at-skip}
+use Rattle.value_lines.proofs.Lines.{parts-values, at_value, at-skip}
 use Rattle.value_lines.specs.Literal.{line_value}
 use Rattle.value_lines.specs.Store.{Entered, AllEntered, SoFar}
+
+-- no line is through
+pub start : (file lines : List ℕ) (raws : List ℤ) (answers : List ℕ) → SoFar file lines raws answers lines raws answers 0 0
+unfolding values_of
+start file lines raws answers =
+    record {
+      few = omega arith;
+      left = sym (parts-values 1 file);
+      lines-hold = held_none _ _;
+      raws-hold = held_none _ _;
+      answers-hold = held_none _ _;
+    }
 
 -- the next value, where some are left
 next_here : (vs : List ValueLine) (n : ℕ) (v : ValueLine) (rest : List ValueLine) → drop n vs ≡ v ∷ rest → n ≤ length vs → n < length vs

@@ -1,9 +1,8 @@
 -- The lines of a file as the code cuts it: the parts between LFs. They are the meaning's lines, but for an empty one that may come last. Assumes nothing.
 use Rattle.std.specs.Prelude.{◌≡◌, refl, ◌⊎◌, Bool, true, false, cond, not, List, [], ◌∷◌, ◌++◌, ℕ, ◌+◌, eqb, length, get_or}
 use Rattle.std.specs.List.{slice_split, onto_first}
-use Rattle.std.proofs.Common.{ap, ◌∙◌, inl, inr, arith, append-nil}
+use Rattle.std.proofs.Common.{ap, ◌∙◌, inl, inr, arith}
 use Rattle.value_lines.specs.Meaning.{line_feed, hash, onto, lines_of, is_value, value_line, values_from}
-use Rattle.value_lines.specs.Theorems.{values-append}
 
 abbrev pub parts_of : List ℕ → List (List ℕ)
 parts_of file = slice_split (λ b. eqb b line_feed) file
@@ -27,15 +26,6 @@ parts-are (b ∷ file) = go (eqb b line_feed) (parts_of file) (lines_of file) (p
     go false parts lines (inl h) = inl (ap (onto_first b) h ∙ onto-same b lines)
     go false parts [] (inr h) = inl (ap (onto_first b) h)
     go false parts (line ∷ lines) (inr h) = inr (ap (onto_first b) h)
-
--- an empty part holds no value
-pub parts-values : (n : ℕ) (file : List ℕ) → values_from n (parts_of file) ≡ values_from n (lines_of file)
-unfolding values_from is_value
-parts-values n file = go (parts-are file)
-  where
-    go : (parts_of file ≡ lines_of file) ⊎ (parts_of file ≡ lines_of file ++ [] ∷ []) → values_from n (parts_of file) ≡ values_from n (lines_of file)
-    go (inl h) = ap (values_from n) h
-    go (inr h) = ap (values_from n) h ∙ values-append n (lines_of file) ([] ∷ []) ∙ append-nil (values_from n (lines_of file))
 
 -- ---- the value lines of a line and those after it
 pub value-more : (n : ℕ) (line : List ℕ) (lines : List (List ℕ)) → is_value line ≡ true

@@ -1,11 +1,10 @@
--- The list as the loop has it: what one line adds, what stands in the list once some lines are through, and the law of the start. Assumes nothing.
+-- The list as the loop has it: what one line adds, and what stands in the list once some lines are through. Assumes nothing.
 use Rattle.std.specs.Prelude.{◌≡◌, true, false, cond, List, map, ℕ, ◌+◌, ◌≤◌, ℤ, length, drop, set}
-use Rattle.std.proofs.Common.{sym, arith}
 use Rattle.laws.specs.Unique.{unique}
 use Rattle.value_lines.specs.declared.line.Value.{Value}
 use Rattle.value_lines.specs.Meaning.{is_value, ValueLine, values_from, values_of, line_number, raw_at, number_at, over}
-use Rattle.value_lines.specs.Held.{Held, held_none}
-use Rattle.value_lines.specs.Lines.{parts_of, parts-values}
+use Rattle.value_lines.specs.Held.{Held}
+use Rattle.value_lines.specs.Lines.{parts_of}
 use Rattle.value_lines.specs.Literal.{line_value}
 
 -- what one line adds: nothing, or its number, raw and answer in place n
@@ -44,14 +43,3 @@ pub record SoFar (file lines : List ℕ) (raws : List ℤ) (answers lines' : Lis
   pub lines-hold : Held (map line_number (values_of file)) n lines lines'
   pub raws-hold : Held (map raw_at (values_of file)) n raws raws'
   pub answers-hold : Held (map number_at (values_of file)) n answers answers'
-
-pub start : (file lines : List ℕ) (raws : List ℤ) (answers : List ℕ) → SoFar file lines raws answers lines raws answers 0 0
-unfolding values_of
-start file lines raws answers =
-    record {
-      few = omega arith;
-      left = sym (parts-values 1 file);
-      lines-hold = held_none _ _;
-      raws-hold = held_none _ _;
-      answers-hold = held_none _ _;
-    }

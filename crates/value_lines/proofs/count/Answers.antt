@@ -3,8 +3,8 @@ use Rattle.std.proofs.Common.{ap, ◌∙◌, eqb, length, rules}
 use Rattle.std.proofs.lemmas.Iterator.Consumers.{count_from_yields_List, YieldsList-from_filter, YieldsList-at}
 use Rattle.std.proofs.lemmas.Iterator.Splits.{YieldsList-from_slice_split}
 use Rattle.value_lines.specs.Meaning.{line_feed, is_value, values_of}
-use Rattle.value_lines.specs.Lines.{parts_of, parts-values}
-use Rattle.value_lines.proofs.Lines.{count-values}
+use Rattle.value_lines.specs.Lines.{parts_of}
+use Rattle.value_lines.proofs.Lines.{parts-values, count-values}
 use Rattle.value_lines.proofs.count.Goals as goal
 
 pub returns : goal.returns

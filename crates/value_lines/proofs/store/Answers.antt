@@ -5,8 +5,7 @@ use Rattle.std.proofs.lemmas.Iterator.Consumers.{YieldsList-turn, YieldsList-end
 use Rattle.std.proofs.lemmas.Iterator.Splits.{YieldsList-from_slice_split}
 use Rattle.value_lines.specs.Meaning.{line_feed}
 use Rattle.value_lines.specs.Lines.{parts_of}
-use Rattle.value_lines.specs.Store.{start}
-use Rattle.value_lines.proofs.Storing.{has-place, more, end}
+use Rattle.value_lines.proofs.Storing.{start, has-place, more, end}
 use Rattle.value_lines.proofs.store.Goals as goal
 
 pub loop-line-init : goal.loop-line-init
