@@ -21,6 +21,9 @@ PAGES = {page.stem: page.read_text() for page in sorted((ROOT / "docs/promises")
 FUNCTION = re.compile(r'^pub (?:extern "C" )?fn (\w+)(.*?)(?:^| )\{$', re.M | re.S)
 CLAUSE = re.compile(r"\b(?:requires|ensures)\b[^{]*\{")
 INNER = re.compile(r"^pub\(crate\) fn (\w+)(.*?)(?:^| )\{$", re.M | re.S)
+IMPL = re.compile(r"^impl(?:<[^>]*>)? (\w+).*?^\}$", re.M | re.S)
+METHOD = re.compile(r"^    pub fn (\w+)(.*?)(?:^    | )\{$", re.M | re.S)
+INNER_METHOD = re.compile(r"^    pub\(crate\) fn (\w+)(.*?)(?:^    | )\{$", re.M | re.S)
 PATH = re.compile(r"(?<![\w/.])(?:(?:crates|oracle|docs|include|tests|bindings|specs|proofs|must-fail)/[\w./-]*\w|\w+\.antt)")
 DECLARED = re.compile(r"^\s*(?:(?:pub|unfoldable|abbrev|opaque|record|data) +)*([^\s:]+)", re.M)
 SIGNS = (("S(?=[A-Z])", "Signed", "Unsigned"), ("(?<=_)S(?![a-zA-Z])", "signed", "unsigned"), ("(?:^|(?<=-))S(?=-)", "signed", "unsigned"))
@@ -65,7 +68,17 @@ def public(crate):
     """(module, name, contract) of each function that another crate, or C, can call."""
     lib = (crate / "src/lib.rt").read_text()
     files = [("", lib)] + [(name, (crate / f"src/{name}.rt").read_text()) for name in re.findall(r"^pub mod (\w+);", lib, re.M)]
-    return [(module, *found) for module, text in files for found in FUNCTION.findall(text)]
+    return [(module, *found) for module, text in files for found in FUNCTION.findall(text) + entries(text)]
+
+
+def methods(text, kind=METHOD):
+    """(type, name, contract) of each method of a file's types."""
+    return [(block[1], name, contract) for block in IMPL.finditer(text) for name, contract in kind.findall(block[0])]
+
+
+def entries(text):
+    """(name, contract) of each public method, whose name begins with its type's."""
+    return [(f"{of}::{name}", contract) for of, name, contract in methods(text)]
 
 
 def named(module, name, where, text):
@@ -99,12 +112,14 @@ def functions(crate, row):
 
 
 def inner():
-    """The table of inner functions: a `pub(crate) fn` with a `requires`, and the other files of its crate that call it."""
+    """The table of inner functions: a `pub(crate) fn` with a `requires`, a method too, and the other files of its crate that call it."""
     own, told = {}, {}
     for crate in sorted(lib.parent for lib in CRATES.glob("*/src/lib.rt")):
         files = {file.stem: re.sub(r"//.*", "", file.read_text()) for file in crate.glob("*.rt")}
         for module, name in [(module, name) for module in files for name, contract in INNER.findall(files[module]) if "requires" in contract]:
             own[f"{crate.parent.name}::{module}::{name}"] = sorted(other for other in files if re.search(rf"\b{module}::{name}\(", files[other]))
+        for module, kind, name in [(module, kind, name) for module in files for kind, name, contract in methods(files[module], INNER_METHOD) if "requires" in contract]:
+            own[f"{crate.parent.name}::{module}::{kind}::{name}"] = sorted(other for other in files if other != module and f".{name}(" in files[other])
     for module, names, callers in re.findall(r"^\| `(\w+::\w+)` \|(.*)\|(.*)\|$", INDEX.split("Other inner functions")[1], re.M):
         told |= {f"{module}::{name}": sorted(spans(callers)) for name in spans(names)}
     for full in sorted(own | told):

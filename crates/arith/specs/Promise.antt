@@ -1,84 +1,60 @@
--- The promises of the public functions, each an equation, and that each settles its answer. Assumes nothing.
-use Rattle.std.specs.Prelude.{◌≡◌, ℕ, ℤ, pos}
+-- The promises of the public functions, each an equation over the kind of raw, and that each settles its answer. An unsigned
+-- operand is a number that is not negative. Assumes nothing.
+use Rattle.std.specs.Prelude.{◌≡◌, Result, Ok, Err, ℕ, ℤ}
+use Rattle.std.specs.Result.{IfOk, IfErr}
 use Rattle.format.specs.declared.Manner.{Manner}
-use Rattle.format.specs.declared.SignedAnswer.{SignedAnswer}
-use Rattle.format.specs.declared.UnsignedAnswer.{UnsignedAnswer}
-use Rattle.format.specs.Meaning.{signed, unsigned, signed_answer, unsigned_answer}
+use Rattle.format.specs.Meaning.{Kind, Answered, answered}
+use Rattle.format.specs.declared.refusal.Refusal.{Refusal}
+use Rattle.format.specs.Checked.{Refuses, new-unique}
 use Rattle.laws.specs.Unique.{unique}
+use Rattle.arith.specs.Refusals.{division_fault, Divides}
 use Rattle.arith.specs.Meaning.{add_of, sub_of, neg_of, mul_of, div_of, rem_of}
 
-abbrev pub SignedAdd : ℤ → ℤ → ℕ → ℕ → Manner → SignedAnswer → Type 0
-SignedAdd a b w f k r = r ≡ signed_answer (add_of k signed w f a b)
+module _ {A : Type 0} (c : Kind A) where
+  abbrev pub Add : A → A → ℕ → ℕ → Manner → Answered A → Type 0
+  Add a b w f k r = r ≡ answered c (add_of k c.sign w f (c.number_of a) (c.number_of b))
 
-abbrev pub SignedSub : ℤ → ℤ → ℕ → ℕ → Manner → SignedAnswer → Type 0
-SignedSub a b w f k r = r ≡ signed_answer (sub_of k signed w f a b)
+  abbrev pub Sub : A → A → ℕ → ℕ → Manner → Answered A → Type 0
+  Sub a b w f k r = r ≡ answered c (sub_of k c.sign w f (c.number_of a) (c.number_of b))
 
-abbrev pub SignedMul : ℤ → ℤ → ℕ → ℕ → Manner → SignedAnswer → Type 0
-SignedMul a b w f k r = r ≡ signed_answer (mul_of k signed w f a b)
+  abbrev pub Mul : A → A → ℕ → ℕ → Manner → Answered A → Type 0
+  Mul a b w f k r = r ≡ answered c (mul_of k c.sign w f (c.number_of a) (c.number_of b))
 
-abbrev pub SignedDiv : ℤ → ℤ → ℕ → ℕ → Manner → SignedAnswer → Type 0
-SignedDiv a b w f k r = r ≡ signed_answer (div_of k signed w f a b)
+  abbrev pub Div : A → A → ℕ → ℕ → Manner → Answered A → Type 0
+  Div a b w f k r = r ≡ answered c (div_of k c.sign w f (c.number_of a) (c.number_of b))
 
-abbrev pub SignedRem : ℤ → ℤ → ℕ → ℕ → Manner → SignedAnswer → Type 0
-SignedRem a b w f k r = r ≡ signed_answer (rem_of k signed w f a b)
+  abbrev pub Rem : A → A → ℕ → ℕ → Manner → Answered A → Type 0
+  Rem a b w f k r = r ≡ answered c (rem_of k c.sign w f (c.number_of a) (c.number_of b))
 
-abbrev pub SignedNeg : ℤ → ℕ → ℕ → Manner → SignedAnswer → Type 0
-SignedNeg a w f k r = r ≡ signed_answer (neg_of k signed w f a)
-
--- an unsigned operand is a number that is not negative
-abbrev pub UnsignedAdd : ℕ → ℕ → ℕ → ℕ → Manner → UnsignedAnswer → Type 0
-UnsignedAdd a b w f k r = r ≡ unsigned_answer (add_of k unsigned w f (pos a) (pos b))
-
-abbrev pub UnsignedSub : ℕ → ℕ → ℕ → ℕ → Manner → UnsignedAnswer → Type 0
-UnsignedSub a b w f k r = r ≡ unsigned_answer (sub_of k unsigned w f (pos a) (pos b))
-
-abbrev pub UnsignedMul : ℕ → ℕ → ℕ → ℕ → Manner → UnsignedAnswer → Type 0
-UnsignedMul a b w f k r = r ≡ unsigned_answer (mul_of k unsigned w f (pos a) (pos b))
-
-abbrev pub UnsignedDiv : ℕ → ℕ → ℕ → ℕ → Manner → UnsignedAnswer → Type 0
-UnsignedDiv a b w f k r = r ≡ unsigned_answer (div_of k unsigned w f (pos a) (pos b))
-
-abbrev pub UnsignedRem : ℕ → ℕ → ℕ → ℕ → Manner → UnsignedAnswer → Type 0
-UnsignedRem a b w f k r = r ≡ unsigned_answer (rem_of k unsigned w f (pos a) (pos b))
-
-abbrev pub UnsignedNeg : ℕ → ℕ → ℕ → Manner → UnsignedAnswer → Type 0
-UnsignedNeg a w f k r = r ≡ unsigned_answer (neg_of k unsigned w f (pos a))
+  abbrev pub Neg : A → ℕ → ℕ → Manner → Answered A → Type 0
+  Neg a w f k r = r ≡ answered c (neg_of k c.sign w f (c.number_of a))
 
 -- two answers that meet a promise are equal
-module _ (a b : ℤ) (w f : ℕ) (k : Manner) {r s : SignedAnswer} where
-  pub signed-add-unique : SignedAdd a b w f k r → SignedAdd a b w f k s → r ≡ s
-  signed-add-unique p q = unique p q
+module _ {A : Type 0} (c : Kind A) (a b : A) (w f : ℕ) (k : Manner) {r s : Answered A} where
+  pub add-unique : Add c a b w f k r → Add c a b w f k s → r ≡ s
+  add-unique p q = unique p q
 
-  pub signed-sub-unique : SignedSub a b w f k r → SignedSub a b w f k s → r ≡ s
-  signed-sub-unique p q = unique p q
+  pub sub-unique : Sub c a b w f k r → Sub c a b w f k s → r ≡ s
+  sub-unique p q = unique p q
 
-  pub signed-mul-unique : SignedMul a b w f k r → SignedMul a b w f k s → r ≡ s
-  signed-mul-unique p q = unique p q
+  pub mul-unique : Mul c a b w f k r → Mul c a b w f k s → r ≡ s
+  mul-unique p q = unique p q
 
-  pub signed-div-unique : SignedDiv a b w f k r → SignedDiv a b w f k s → r ≡ s
-  signed-div-unique p q = unique p q
+  pub div-unique : Div c a b w f k r → Div c a b w f k s → r ≡ s
+  div-unique p q = unique p q
 
-  pub signed-rem-unique : SignedRem a b w f k r → SignedRem a b w f k s → r ≡ s
-  signed-rem-unique p q = unique p q
+  pub rem-unique : Rem c a b w f k r → Rem c a b w f k s → r ≡ s
+  rem-unique p q = unique p q
 
-  pub signed-neg-unique : SignedNeg a w f k r → SignedNeg a w f k s → r ≡ s
-  signed-neg-unique p q = unique p q
+  pub neg-unique : Neg c a w f k r → Neg c a w f k s → r ≡ s
+  neg-unique p q = unique p q
 
-module _ (a b w f : ℕ) (k : Manner) {r s : UnsignedAnswer} where
-  pub unsigned-add-unique : UnsignedAdd a b w f k r → UnsignedAdd a b w f k s → r ≡ s
-  unsigned-add-unique p q = unique p q
+-- what `divided` says, of the width and the fraction bits that it lets through
+abbrev pub Divided : ℕ → ℕ → ℤ → Result (ℕ × ℕ) Refusal → Type 0
+Divided w f b r = IfOk r (λ x. Divides w f b x.0 x.1) × IfErr r (Refuses (division_fault w f b))
 
-  pub unsigned-sub-unique : UnsignedSub a b w f k r → UnsignedSub a b w f k s → r ≡ s
-  unsigned-sub-unique p q = unique p q
-
-  pub unsigned-mul-unique : UnsignedMul a b w f k r → UnsignedMul a b w f k s → r ≡ s
-  unsigned-mul-unique p q = unique p q
-
-  pub unsigned-div-unique : UnsignedDiv a b w f k r → UnsignedDiv a b w f k s → r ≡ s
-  unsigned-div-unique p q = unique p q
-
-  pub unsigned-rem-unique : UnsignedRem a b w f k r → UnsignedRem a b w f k s → r ≡ s
-  unsigned-rem-unique p q = unique p q
-
-  pub unsigned-neg-unique : UnsignedNeg a w f k r → UnsignedNeg a w f k s → r ≡ s
-  unsigned-neg-unique p q = unique p q
+pub divided-unique : (w f : ℕ) (b : ℤ) (r s : Result (ℕ × ℕ) Refusal) → Divided w f b r → Divided w f b s → r ≡ s
+divided-unique w f b (Ok x) (Ok y) p q = new-unique (division_fault w f b) w f (Ok x) (Ok y) (p.0.opens, p.1) (q.0.opens, q.1)
+divided-unique w f b (Ok x) (Err e) p q = absurd (q.1.fault p.0.opens.free)
+divided-unique w f b (Err e) (Ok y) p q = absurd (p.1.fault q.0.opens.free)
+divided-unique w f b (Err d) (Err e) p q = new-unique (division_fault w f b) w f (Err d) (Err e) (tt, p.1) (tt, q.1)

@@ -1,7 +1,8 @@
 -- The refusal of a divisor: one law for each way out, and what is known where there is none. Assumes nothing.
 use Rattle.std.specs.Prelude.{◌≡◌, refl, Bool, true, false, cond, ℕ, ◌<◌, eqb, ℤ, nat_abs}
-use Rattle.std.proofs.Common.{ap, ◌∙◌, arith, ne_eqb}
+use Rattle.std.proofs.Common.{arith, ne_eqb}
 use Rattle.std.proofs.lemmas.Bool.{eqb-false}
+use Rattle.format.specs.Checked.{Opens}
 use Rattle.format.specs.Meaning.{fault_of}
 use Rattle.exact.specs.Meaning.{or_else}
 use Rattle.arith.specs.Meaning.{divisor_fault}
@@ -22,5 +23,10 @@ divisor-none b h = go (eqb (nat_abs b) 0) refl h
     go true e h = absurd (omega arith)
     go false e h = omega (arith, eqb-false (nat_abs b) 0 e)
 
-pub at_divisor : (w f : ℕ) {y b : ℤ} {r : ℕ} → y ≡ b → r ≡ or_else (fault_of w f) (divisor_fault y) → r ≡ or_else (fault_of w f) (divisor_fault b)
-at_divisor w f e q = q ∙ ap (λ (z : ℤ). or_else (fault_of w f) (divisor_fault z)) e
+-- the number of the first refusal of a division, 0 for none; and what no refusal tells
+abbrev pub division_fault : ℕ → ℕ → ℤ → ℕ
+division_fault w f b = or_else (fault_of w f) (divisor_fault b)
+
+pub record Divides (w f : ℕ) (b : ℤ) (width frac : ℕ) : Type 0 where
+  pub opens : Opens (division_fault w f b) w f width frac
+  pub some : 0 < nat_abs b

@@ -2,7 +2,8 @@
 -- Assumes nothing.
 use Rattle.std.specs.Prelude.{◌≡◌, ◌⊎◌, Bool, true, false, ℕ, zero, suc, ◌+◌, ◌-◌, ◌*◌, ◌^◌, ◌≤◌, ◌<◌, length, take}
 use Rattle.std.proofs.Math.Path.{sym, ap, ap₂}
-use Rattle.std.proofs.Common.{◌∙◌, subst, inl, inr, mul-le-mul, take_all, pow-add, pow_pos}
+use Rattle.std.proofs.Common.{◌∙◌, subst, inl, inr, mul-le-mul, take_all, pow-suc, pow-add, pow_pos, pow_mono}
+use Rattle.std.proofs.Math.Decide.{dec_le}
 use mathlib.Core.List.{List, Memᴰ}
 use native.Mathlib.Omega.{arith}
 use Rattle.laws.specs.Nearest.{nearest_even, nearest-exact, nearest-scale}
@@ -12,8 +13,8 @@ use Rattle.grammar.specs.Naturals.{nat_of}
 use Rattle.fold.specs.declared.Folded.{Folded}
 use Rattle.fold.specs.Fold.{fold_of, folded_value, fold-times}
 use Rattle.grammar.specs.Run.{body_of}
-use Rattle.fold.specs.Body.{as_written, Taken, body-length}
-use Rattle.bits.specs.Cut.{bits_number, Digits, pow-pow}
+use Rattle.fold.specs.Body.{as_written, body-length}
+use Rattle.bits.specs.Cut.{bits_number, WholeBits, pow-pow}
 
 -- what a radix is here, and what an exponent scales by
 abbrev pub Power : ℕ → Type 0
@@ -31,23 +32,23 @@ pub record Legal (t : List ℕ) (n after radix base exp frac : ℕ) : Type 0 whe
   pub room : frac ≤ 64
 
 -- ---- no digit is cut, or one is
-module _ (t : List ℕ) (n width up down : ℕ) (digits : Digits t n width) where
-  pub whole-done : {x r : Folded} {at : ℕ} → down ≤ up → Taken t 0 n (2 ^ width) x at → r ≡ fold_of (folded_value x * 2 ^ (up - down))
-      → r ≡ fold_of (nearest_even (bits_number t width * 2 ^ up) (2 ^ down))
-  whole-done {x} {r} {at} h all e =
-      let number = bits_number t width in
-      let every : take n (body_of t) ≡ body_of t = take_all n (body_of t) (omega (arith, digits.count)) in
+module _ (ds : List ℕ) (n width up down : ℕ) (digits : WholeBits ds n width) where
+  pub whole-done : {x r : Folded} → down ≤ up → x ≡ fold_of (nat_of (2 ^ width) (take n ds)) → r ≡ fold_of (folded_value x * 2 ^ (up - down))
+      → r ≡ fold_of (nearest_even (bits_number ds width * 2 ^ up) (2 ^ down))
+  whole-done {x} {r} h all e =
+      let number = bits_number ds width in
+      let every : take n ds ≡ ds = take_all n ds (omega (arith, digits.count)) in
       let exact : number * 2 ^ up ≡ number * 2 ^ (up - down) * 2 ^ down = omega (arith, ap (λ (k : ℕ). number * k) (power-sub down up h)) in
       e
-      ∙ ap (λ (z : Folded). fold_of (folded_value z * 2 ^ (up - down))) (all.folded ∙ ap (λ (l : List ℕ). fold_of (nat_of (2 ^ width) l)) every)
+      ∙ ap (λ (z : Folded). fold_of (folded_value z * 2 ^ (up - down))) (all ∙ ap (λ (l : List ℕ). fold_of (nat_of (2 ^ width) l)) every)
       ∙ fold-times number (2 ^ (up - down)) (pow_pos (up - down))
       ∙ ap fold_of (sym (ap (λ (k : ℕ). nearest_even k (2 ^ down)) exact ∙ nearest-exact (number * 2 ^ (up - down)) (2 ^ down) (pow_pos down)))
 
-  pub part-done : {r : Folded} → up < down → r ≡ fold_of (nearest_even (bits_number t width) (2 ^ (down - up)))
-      → r ≡ fold_of (nearest_even (bits_number t width * 2 ^ up) (2 ^ down))
+  pub part-done : {r : Folded} → up < down → r ≡ fold_of (nearest_even (bits_number ds width) (2 ^ (down - up)))
+      → r ≡ fold_of (nearest_even (bits_number ds width * 2 ^ up) (2 ^ down))
   part-done h e =
-      let scaled = nearest-scale (bits_number t width) (2 ^ (down - up)) (2 ^ up) (pow_pos (down - up)) (pow_pos up) in
-      e ∙ ap fold_of (sym (ap (nearest_even (bits_number t width * 2 ^ up)) (power-sub up down (omega arith)) ∙ scaled))
+      let scaled = nearest-scale (bits_number ds width) (2 ^ (down - up)) (2 ^ up) (pow_pos (down - up)) (pow_pos up) in
+      e ∙ ap fold_of (sym (ap (nearest_even (bits_number ds width * 2 ^ up)) (power-sub up down (omega arith)) ∙ scaled))
 
 -- ---- the raw: what the exponent scales by is a power of two as well
 module _ (t : List ℕ) (after radix base exp f width bits : ℕ) (r : radix ≡ 2 ^ width) (b : base ≡ 2 ^ bits) where
@@ -57,34 +58,42 @@ module _ (t : List ℕ) (after radix base exp f width bits : ℕ) (r : radix ≡
   scale : base ^ exp ≡ 2 ^ (bits * exp)
   scale = ap (λ (k : ℕ). k ^ exp) b ∙ pow-pow bits exp
 
-  raw-down : raw_of radix f (as_written t after base true exp) ≡ nearest_even (bits_number t width * 2 ^ f) (2 ^ (width * after + bits * exp))
+  raw-down : raw_of radix f (as_written t after base true exp) ≡ nearest_even (bits_number (body_of t) width * 2 ^ f) (2 ^ (width * after + bits * exp))
   unfolding raw_of num den
   raw-down =
-      let up : nat_of radix (body_of t) * 1 * 2 ^ f ≡ bits_number t width * 2 ^ f = ap (λ (k : ℕ). nat_of k (body_of t) * 1 * 2 ^ f) r ∙ omega arith in
+      let up : nat_of radix (body_of t) * 1 * 2 ^ f ≡ bits_number (body_of t) width * 2 ^ f = ap (λ (k : ℕ). nat_of k (body_of t) * 1 * 2 ^ f) r ∙ omega arith in
       ap₂ nearest_even up (ap₂ (λ (x y : ℕ). x * y) places scale ∙ sym (pow-add 2 (width * after) (bits * exp)))
 
-  raw-up : raw_of radix f (as_written t after base false exp) ≡ nearest_even (bits_number t width * 2 ^ (f + bits * exp)) (2 ^ (width * after))
+  raw-up : raw_of radix f (as_written t after base false exp) ≡ nearest_even (bits_number (body_of t) width * 2 ^ (f + bits * exp)) (2 ^ (width * after))
   unfolding raw_of num den
   raw-up =
-      let up : nat_of radix (body_of t) * base ^ exp * 2 ^ f ≡ bits_number t width * 2 ^ (f + bits * exp) =
-      ap₂ (λ (k m : ℕ). nat_of k (body_of t) * m * 2 ^ f) r scale ∙ omega (arith, ap (λ (k : ℕ). bits_number t width * k) (pow-add 2 f (bits * exp))) in
+      let up : nat_of radix (body_of t) * base ^ exp * 2 ^ f ≡ bits_number (body_of t) width * 2 ^ (f + bits * exp) =
+      ap₂ (λ (k m : ℕ). nat_of k (body_of t) * m * 2 ^ f) r scale ∙ omega (arith, ap (λ (k : ℕ). bits_number (body_of t) width * k) (pow-add 2 f (bits * exp))) in
       let dn : radix ^ after * 1 ≡ 2 ^ (width * after) = omega (arith, places) in
       ap₂ nearest_even up dn
 
-  pub down-done : {x : Folded} {down : Bool} → down ≡ true → x ≡ fold_of (nearest_even (bits_number t width * 2 ^ f) (2 ^ (width * after + bits * exp)))
+  pub down-done : {x : Folded} {down : Bool} → down ≡ true → x ≡ fold_of (nearest_even (bits_number (body_of t) width * 2 ^ f) (2 ^ (width * after + bits * exp)))
       → x ≡ fold_of (raw_of radix f (as_written t after base down exp))
   down-done e q = rw e (q ∙ ap fold_of (sym raw-down))
 
-  pub up_done : {x : Folded} {down : Bool} → down ≡ false → x ≡ fold_of (nearest_even (bits_number t width * 2 ^ (f + bits * exp)) (2 ^ (width * after)))
+  pub up_done : {x : Folded} {down : Bool} → down ≡ false → x ≡ fold_of (nearest_even (bits_number (body_of t) width * 2 ^ (f + bits * exp)) (2 ^ (width * after)))
       → x ≡ fold_of (raw_of radix f (as_written t after base down exp))
   up_done e q = rw e (q ∙ ap fold_of (sym raw-up))
 
--- ---- what the code asks on the way
-pub last-power : {p : ℕ} → Power p → (p ≡ 1 → ⊥) → (p ≡ 2 → ⊥) → (p ≡ 8 → ⊥) → p ≡ 16
-last-power (inl e) f g h = absurd (f e)
-last-power (inr (inl e)) f g h = absurd (g e)
-last-power (inr (inr (inl e))) f g h = absurd (h e)
-last-power (inr (inr (inr e))) f g h = e
+-- ---- what the code asks on the way: a power of two by how it lies between two
+exact : (k r : ℕ) → 2 ^ r ≤ 2 ^ k → 2 ^ k < 2 * 2 ^ r → k ≡ r
+exact k r low high = go (dec_le (suc k) r) (dec_le (suc r) k)
+  where
+    go : Dec (suc k ≤ r) → Dec (suc r ≤ k) → k ≡ r
+    go (yes h) d = absurd (omega (arith, pow_mono {i = suc k} {j = r} h, pow-suc 2 k, pow_pos k))
+    go (no g) (yes h) = absurd (omega (arith, pow_mono {i = suc r} {j = k} h, pow-suc 2 r))
+    go (no g) (no h) = omega arith
+
+pub log-power : {p : ℕ} (r : ℕ) → Power p → 2 ^ r ≤ p → p < 2 * 2 ^ r → (p ≡ 2 ^ r) × (r ≤ 4)
+log-power {p} r (inl e) l h = let k = exact 0 r (omega arith) (omega arith) in (e ∙ ap (λ (i : ℕ). 2 ^ i) k, omega arith)
+log-power {p} r (inr (inl e)) l h = let k = exact 1 r (omega arith) (omega arith) in (e ∙ ap (λ (i : ℕ). 2 ^ i) k, omega arith)
+log-power {p} r (inr (inr (inl e))) l h = let k = exact 3 r (omega arith) (omega arith) in (e ∙ ap (λ (i : ℕ). 2 ^ i) k, omega arith)
+log-power {p} r (inr (inr (inr e))) l h = let k = exact 4 r (omega arith) (omega arith) in (e ∙ ap (λ (i : ℕ). 2 ^ i) k, omega arith)
 
 module _ {t : List ℕ} {n after radix base exp frac : ℕ} (legal : Legal t n after radix base exp frac) where
   pub radix-power : Power radix
@@ -98,7 +107,7 @@ module _ {t : List ℕ} {n after radix base exp frac : ℕ} (legal : Legal t n a
       go (inr (inl e)) = inr (inl e)
       go (inr (inr e)) = subst Power (sym e) radix-power
 
-  pub legal-digits : {width : ℕ} → (radix ≡ 2 ^ width) × (width ≤ 4) → Digits t n width
+  pub legal-digits : {width : ℕ} → (radix ≡ 2 ^ width) × (width ≤ 4) → WholeBits (body_of t) n width
   legal-digits {width} w =
       record {
         count = legal.count;

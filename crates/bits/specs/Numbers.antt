@@ -1,9 +1,8 @@
 -- The digits as one number, taken apart: those in front, those behind, and whether they are all 0. Assumes nothing.
-use Rattle.std.specs.Prelude.{◌≡◌, refl, Bool, true, false, cond, ℕ, suc, ◌+◌, ◌-◌, ◌*◌, ◌^◌, ◌<◌, eqb, length, take, drop, get_or}
-use Rattle.std.proofs.Common.{sym, ap, ◌∙◌, subst, true≢false, mul-pos, arith, take-append-drop, length-drop, drop-cons, eqb-true}
+use Rattle.std.specs.Prelude.{◌≡◌, refl, Bool, true, false, not, ◌||◌, ℕ, suc, ◌+◌, ◌-◌, ◌*◌, ◌^◌, ◌<◌, eqb, length, take, drop, get_or}
+use Rattle.std.proofs.Common.{sym, ap, ◌∙◌, true≢false, mul-pos, arith, take-append-drop, length-drop, drop-cons, eqb-true}
 use Rattle.std.proofs.lemmas.Bool.{false≢true, eqb-false}
-use mathlib.Core.List.Memᴰ
-use mathlib.Core.List.{List, [], ◌∷◌, Memᴰ}
+use mathlib.Core.List.{List, [], ◌∷◌}
 use Rattle.std.proofs.Math.Nat.{one-le-pow}
 use Rattle.grammar.specs.Meaning.{nat_from}
 use Rattle.grammar.specs.Naturals.{nat_of, nat_from-append, nat_from-shift}
@@ -26,25 +25,21 @@ nat-around radix ds k h =
 
 -- ---- all 0, or not
 pub any_none : (radix : ℕ) (ds : List ℕ) → any_of ds ≡ false → nat_of radix ds ≡ 0
-unfolding nat_from any_of
+unfolding nat_from
 any_none radix [] e = refl
 any_none radix (d ∷ ds) e = go (eqb d 0) refl (λ a. any_none radix ds a) e
   where
-    go : (z : Bool) → eqb d 0 ≡ z → (any_of ds ≡ false → nat_of radix ds ≡ 0) → cond z (any_of ds) true ≡ false → nat_from radix ds (0 * radix + d) ≡ 0
+    go : (z : Bool) → eqb d 0 ≡ z → (any_of ds ≡ false → nat_of radix ds ≡ 0) → (not z || any_of ds) ≡ false → nat_from radix ds (0 * radix + d) ≡ 0
     go true f more a = omega (arith, nat_from-shift radix ds (0 * radix + d), more a, ap (λ (n : ℕ). n * radix ^ length ds) (eqb-true d 0 f))
     go false f more a = absurd (true≢false a)
 
 pub any_some : (radix : ℕ) (ds : List ℕ) → 0 < radix → any_of ds ≡ true → 0 < nat_of radix ds
-unfolding nat_from any_of
+unfolding nat_from
 any_some radix [] r e = absurd (false≢true e)
 any_some radix (d ∷ ds) r e = go (eqb d 0) refl (λ a. any_some radix ds r a) e
   where
-    go : (z : Bool) → eqb d 0 ≡ z → (any_of ds ≡ true → 0 < nat_of radix ds) → cond z (any_of ds) true ≡ true → 0 < nat_from radix ds (0 * radix + d)
+    go : (z : Bool) → eqb d 0 ≡ z → (any_of ds ≡ true → 0 < nat_of radix ds) → (not z || any_of ds) ≡ true → 0 < nat_from radix ds (0 * radix + d)
     go true f more a = omega (arith, nat_from-shift radix ds (0 * radix + d), more a)
     go false f more a =
         let some : 0 < d * radix ^ length ds = mul-pos (omega (arith, eqb-false d 0 f)) (one-le-pow (length ds) radix r) in
         omega (arith, nat_from-shift radix ds (0 * radix + d))
-
--- ---- a part has digits of the whole
-pub drop-digits : {ds : List ℕ} {radix : ℕ} (k : ℕ) → ((d : ℕ) → Memᴰ d ds → d < radix) → (d : ℕ) → Memᴰ d (drop k ds) → d < radix
-drop-digits {ds} {radix} k below d m = below d (subst (Memᴰ d) (take-append-drop k ds) (Memᴰ.append_right (take k ds) m))

@@ -1,6 +1,6 @@
 -- The answers of the byte functions: the low bits that an answer holds, the refusal 5, and what a lent buffer holds after. Assumes nothing.
 use mathlib.Core.Path.{◌≡◌, refl, sym, ap, ap₂, ◌∙◌, subst}
-use mathlib.Core.List.{List, ◌++◌}
+use mathlib.Core.List.{List, ◌++◌, reverse}
 use mathlib.Core.Bool.{Bool, true, false, cond}
 use Prim.Native.Nat.{ℕ, ◌+◌, ◌*◌, ◌/◌, ◌^◌, ◌≤◌, ◌<◌}
 use native.Mathlib.Omega.{arith}
@@ -16,8 +16,8 @@ use Rattle.format.specs.declared.UnsignedAnswer.TheVariants.{Done as DoneU, Refu
 use Rattle.format.specs.Meaning.{signed, unsigned, fault_of, settle, wrap, done, with_sign, signed_answer, unsigned_answer, value_u}
 use Rattle.format.specs.Answer.{fault-unsigned, pass-unsigned}
 use Rattle.exact.specs.Meaning.{or_else}
-use Rattle.byte_order.specs.Meaning.{le_bytes, from_be, low_bits, little_of, big_of, buffer_fault, length_fault, buffer_of}
-use Rattle.byte_order.specs.Bytes.{swapped-reversed}
+use Rattle.exact.specs.Refusals.{met}
+use Rattle.byte_order.specs.Meaning.{le_bytes, low_bits, little_of, big_of, buffer_fault, length_fault, buffer_of}
 use Rattle.byte_order.specs.Promise.{Stored}
 use Rattle.exact.specs.Signs.{one_word}
 
@@ -71,6 +71,10 @@ length_none w n l h = go (eqb n (w / 8)) refl h
 pub eight : (w : ℕ) {s : ℕ} → s ≡ w / 8 → w ≤ 64 → s ≤ 8
 eight w e h = omega arith
 
+-- where nothing is refused, the bytes have their places in the buffer and in a word
+pub room_of : (w f n : ℕ) {fault s : ℕ} → fault ≡ or_else (fault_of w f) (buffer_fault w n) → fault ≡ 0 → s ≡ w / 8 → (s ≤ n) × (s ≤ 8)
+room_of w f n e z q = let m = met w f (buffer_fault w n) e z in (room-none w n q m.rest, eight w q m.word)
+
 -- one word, wrapped
 pub plain : (v : ℕ) {x : ℕ} → v ≡ x → with_sign false (0 * 2 ^ 64 + v) ≡ pos x
 unfolding with_sign
@@ -84,9 +88,6 @@ module _ (w : ℕ) {x y : ℤ} (e : x ≡ y) where
   pub wrapped-unsigned : {r : UnsignedAnswer} → r ≡ unsigned_answer (settle Wrapping unsigned w x) → r ≡ unsigned_answer (done (wrap unsigned w y) false)
   unfolding settle
   wrapped-unsigned p = p ∙ ap (λ (z : ℤ). unsigned_answer (done (wrap unsigned w z) false)) e
-
-pub swapped-of : (w : ℕ) {z a : ℤ} {s x v : ℕ} → z ≡ a → s ≡ w / 8 → x ≡ low_bits w z → v ≡ from_be 0 (le_bytes s x) → v ≡ from_be 0 (little_of w a)
-swapped-of w e p q r = r ∙ ap₂ (λ (n m : ℕ). from_be 0 (le_bytes n m)) p (q ∙ ap (low_bits w) e)
 
 -- the buffer after: written, or as it was
 pub stored_at : {w f : ℕ} {out after l m : List ℕ} {r : UnsignedAnswer} → l ≡ m → Stored l w f out after r → Stored m w f out after r
@@ -113,9 +114,6 @@ module _ (w f : ℕ) (out : List ℕ) {fault : ℕ} (e : fault ≡ or_else (faul
       → Stored (little_of w a) w f out after (DoneU s false)
   stored-little a {s = s} z q l p = stored-done z q (p ∙ ap (λ (k : List ℕ). k ++ drop s out) (ap₂ le_bytes q l))
 
-  pub stored-big : (a : ℤ) {after : List ℕ} {s v u : ℕ} → fault ≡ 0 → s ≡ w / 8 → v ≡ low_bits w a → u ≡ from_be 0 (le_bytes s v)
-      → after ≡ le_bytes s u ++ drop s out
+  pub stored-big : (a : ℤ) {after : List ℕ} {s v : ℕ} → fault ≡ 0 → s ≡ w / 8 → v ≡ low_bits w a → after ≡ reverse (le_bytes s v) ++ drop s out
       → Stored (big_of w a) w f out after (DoneU s false)
-  stored-big a {s = s} z q l t p =
-      let turned = ap₂ le_bytes q (swapped-of w {z = a} refl q l t) ∙ swapped-reversed (w / 8) (low_bits w a) in
-      stored-done z q (p ∙ ap (λ (k : List ℕ). k ++ drop s out) turned)
+  stored-big a {s = s} z q l p = stored-done z q (p ∙ ap (λ (k : List ℕ). reverse k ++ drop s out) (ap₂ le_bytes q l))

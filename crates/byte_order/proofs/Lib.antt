@@ -1,2 +1,2 @@
--- What the proofs of more than one function use.
-mod Buffers
+pub mod Buffers
+pub mod Words

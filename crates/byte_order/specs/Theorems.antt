@@ -4,7 +4,7 @@ use Rattle.std.specs.Prelude.{◌≡◌, Bool, true, false, ◌||◌, ℕ, zero,
 use Rattle.std.proofs.Math.Path.{refl, ap}
 use Rattle.std.proofs.Common.{sym, ◌∙◌, subst, arith, div-add-mod', mod-lt, lit<, pow-add, pow_pos, eqb-true, eq-eqb}
 use Rattle.std.proofs.lemmas.Bool.{false≢true}
-use mathlib.Core.List.{List, [], ◌∷◌, ◌++◌, reverse, reverse-cons}
+use mathlib.Core.List.{List, [], ◌∷◌, reverse, reverse-cons}
 use Rattle.std.proofs.Math.IntN.{pos}
 use Rattle.std.proofs.lemmas.List.{length-reverse}
 use Rattle.laws.specs.Diff.{up}
@@ -16,7 +16,7 @@ use Rattle.format.specs.Fault.{width-bounds, fault-free}
 use Rattle.exact.specs.Meaning.{or_else}
 use Rattle.exact.specs.Theorems.{wrap-same}
 use Rattle.byte_order.specs.Meaning.{le_bytes, from_le, from_be, low_bits, little_of, big_of, length_fault, from_bytes_of, swap_of}
-use Rattle.byte_order.specs.Bytes.{below_next, swapped-reversed}
+use Rattle.byte_order.specs.Bytes.{below_next, be-last, swapped-reversed}
 
 -- ---- numbers: n bytes hold what is below 2^(8 n)
 pub bytes_back : (n x : ℕ) → x < 2 ^ (8 * n) → from_le (le_bytes n x) ≡ x
@@ -29,15 +29,10 @@ bytes_back (suc n) x h =
     ap (λ (k : ℕ). k * 256 + x % 256) (bytes_back n (x / 256) l) ∙ div-add-mod' x 256
 
 -- with the first byte highest it is the other order's number
-be-snoc : (h b : ℕ) (l : List ℕ) → from_be h (l ++ (b ∷ [])) ≡ from_be h l * 256 + b
-unfolding from_be
-be-snoc h b [] = refl
-be-snoc h b (c ∷ t) = be-snoc (h * 256 + c) b t
-
 pub be-reverse : (l : List ℕ) → from_be 0 (reverse l) ≡ from_le l
 unfolding from_be from_le
 be-reverse [] = refl
-be-reverse (b ∷ t) = ap (from_be 0) (reverse-cons b t) ∙ be-snoc 0 b (reverse t) ∙ ap (λ (k : ℕ). k * 256 + b) (be-reverse t)
+be-reverse (b ∷ t) = ap (from_be 0) (reverse-cons b t) ∙ be-last 0 b (reverse t) ∙ ap (λ (k : ℕ). k * 256 + b) (be-reverse t)
 
 be-below : (n x a k : ℕ) → a < 2 ^ (8 * k) → from_be a (le_bytes n x) < 2 ^ (8 * (k + n))
 unfolding from_be le_bytes
@@ -53,7 +48,7 @@ pub swap-back : (n x : ℕ) → x < 2 ^ (8 * n) → from_be 0 (le_bytes n (from_
 swap-back n x h = ap (from_be 0) (swapped-reversed n x) ∙ be-reverse (le_bytes n x) ∙ bytes_back n x h
 
 -- ---- raws: a width is whole bytes
-eights : (w : ℕ) → is_width w ≡ true → w ≡ 8 * (w / 8)
+pub eights : (w : ℕ) → is_width w ≡ true → w ≡ 8 * (w / 8)
 unfolding is_width
 eights w h = go (eqb w 8) (eqb w 16) (eqb w 32) (eqb w 64) refl refl refl refl h
   where

@@ -11,8 +11,7 @@ pub fn swap_bytes(a: i64, width: u32, frac: u32) -> SignedAnswer
 {
     let fault = format::check(width, frac);
     if fault == 0 {
-        let low = bytes::low_bits(exact::of_signed(a), width);
-        let x = bytes::swapped(low, bytes::size(width));
+        let x = bytes::swapped(exact::of_signed(a), width);
         return format::signed::fit(false, 0, x, width, Manner::Wrapping);
     }
     SignedAnswer::Refused(fault)

@@ -12,8 +12,7 @@ pub fn swap_bytes(a: u64, width: u32, frac: u32) -> UnsignedAnswer
 {
     let fault = format::check(width, frac);
     if fault == 0 {
-        let low = bytes::low_bits(exact::of_unsigned(a), width);
-        let x = bytes::swapped(low, bytes::size(width));
+        let x = bytes::swapped(exact::of_unsigned(a), width);
         return format::unsigned::fit(false, 0, x, width, Manner::Wrapping);
     }
     UnsignedAnswer::Refused(fault)

@@ -2,7 +2,8 @@
 -- A buffer is `out` at entry, and at exit `out'` in the one outcome and `out''` in the other. Assumes nothing.
 use Rattle.std.specs.Prelude.{◌≡◌, List, ℕ, ℤ}
 use Rattle.std.proofs.Common.{ap}
-use Rattle.decimal.specs.Promise.{WriteSigned, WriteUnsigned, write-signed-unique, write-unsigned-unique}
+use Rattle.format.specs.Meaning.{signed_kind, unsigned_kind}
+use Rattle.decimal.specs.Promise.{Write, write-unique}
 use Rattle.byte_order.specs.Promise.{Stored, stored-unique}
 use Rattle.filter.specs.Meaning.{history, state_of}
 use Rattle.filter.specs.Promise.{Runs, run-unique}
@@ -14,16 +15,16 @@ use Rattle.capi.specs.Promise.{Unsigned, File, same-copied, lent-unique}
 
 module _ (width frac : ℕ) (out : List ℕ) {out' out'' : List ℕ} {r s : CUnsigned} where
   pub tq-write-signed-unique : (raw : ℤ)
-      → Unsigned (λ a. WriteSigned raw width frac out a out') r
-      → Unsigned (λ a. WriteSigned raw width frac out a out'') s
+      → Unsigned (λ a. Write signed_kind raw width frac out a out') r
+      → Unsigned (λ a. Write signed_kind raw width frac out a out'') s
       → (r ≡ s) × (out' ≡ out'')
-  tq-write-signed-unique raw = lent-unique (write-signed-unique raw width frac out)
+  tq-write-signed-unique raw = lent-unique (write-unique signed_kind raw width frac out)
 
   pub tq-write-unsigned-unique : (raw : ℕ)
-      → Unsigned (λ a. WriteUnsigned raw width frac out a out') r
-      → Unsigned (λ a. WriteUnsigned raw width frac out a out'') s
+      → Unsigned (λ a. Write unsigned_kind raw width frac out a out') r
+      → Unsigned (λ a. Write unsigned_kind raw width frac out a out'') s
       → (r ≡ s) × (out' ≡ out'')
-  tq-write-unsigned-unique raw = lent-unique (write-unsigned-unique raw width frac out)
+  tq-write-unsigned-unique raw = lent-unique (write-unique unsigned_kind raw width frac out)
 
   -- tq_to_be_bytes_S, tq_to_le_bytes_S: the bytes of a raw, in either order
   pub tq-to-bytes-unique : (bytes : List ℕ)

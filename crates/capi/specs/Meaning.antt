@@ -1,12 +1,10 @@
 -- The library's answers as the structs of include/tamqoret.h, and C's numbers for a manner and a sign: all that the C
 -- interface adds to the meaning of the library. Assumes nothing.
-use Rattle.std.specs.Prelude.{Bool, cond, not, ℕ, eqb}
+use Rattle.std.specs.Prelude.{Bool, cond, not, ℕ, ℤ, eqb}
 use mir.Val.{bool_byte}
 use Rattle.format.specs.declared.Manner.{Manner}
 use Rattle.format.specs.declared.Manner.TheVariants.{Strict, Saturating, Wrapping, Overflowing}
-use Rattle.format.specs.declared.SignedAnswer.{SignedAnswer}
-use Rattle.format.specs.declared.UnsignedAnswer.{UnsignedAnswer}
-use Rattle.format.specs.Meaning.{number_s, value_s, flag_s, number_u, value_u, flag_u}
+use Rattle.format.specs.Meaning.{Answered, signed_kind, unsigned_kind, number_in, value_in, flag_in}
 use Rattle.fitting.specs.declared.FileAnswer.{FileAnswer}
 use Rattle.fitting.specs.Meaning.{number_f, values_f, line_f, inner_f}
 use Rattle.capi.specs.declared.answer.CSigned.{CSigned}
@@ -14,11 +12,11 @@ use Rattle.capi.specs.declared.answer.CUnsigned.{CUnsigned}
 use Rattle.capi.specs.declared.c_fitting.CFile.{CFile}
 
 -- tq_signed, tq_unsigned: "number is 0 where it is done, else the refusal. A refusal has flag 0 and value 0."
-unfoldable pub signed_of : SignedAnswer → CSigned
-signed_of a = record { number = number_s a; flag = bool_byte (flag_s a); value = value_s a }
+unfoldable pub signed_of : Answered ℤ → CSigned
+signed_of a = record { number = number_in a; flag = bool_byte (flag_in a); value = value_in signed_kind a }
 
-unfoldable pub unsigned_of : UnsignedAnswer → CUnsigned
-unsigned_of a = record { number = number_u a; flag = bool_byte (flag_u a); value = value_u a }
+unfoldable pub unsigned_of : Answered ℕ → CUnsigned
+unsigned_of a = record { number = number_in a; flag = bool_byte (flag_in a); value = value_in unsigned_kind a }
 
 -- tq_file: the line and its own refusal are "else 0", the values "0 with every refusal"
 unfoldable pub file_of : FileAnswer → CFile

@@ -1,9 +1,8 @@
 -- What an export promises, over the promise P of the function that it calls: its struct and its lent buffers are
 -- settled where P settles answer and buffers. Assumes nothing.
-use Rattle.std.specs.Prelude.{◌≡◌}
+use Rattle.std.specs.Prelude.{◌≡◌, ℕ, ℤ}
 use Rattle.std.proofs.Common.{sym, ap, ◌∙◌}
-use Rattle.format.specs.declared.SignedAnswer.{SignedAnswer}
-use Rattle.format.specs.declared.UnsignedAnswer.{UnsignedAnswer}
+use Rattle.format.specs.Meaning.{Answered}
 use Rattle.fitting.specs.declared.FileAnswer.{FileAnswer}
 use Rattle.capi.specs.declared.answer.CSigned.{CSigned}
 use Rattle.capi.specs.declared.answer.CUnsigned.{CUnsigned}
@@ -16,10 +15,10 @@ pub record Copied {A X : Type 0} (copy : A → X) (P : A → Type 0) (r : X) : T
   pub copied : r ≡ copy answer
   pub meets : P answer
 
-abbrev pub Signed : (SignedAnswer → Type 0) → CSigned → Type 0
+abbrev pub Signed : (Answered ℤ → Type 0) → CSigned → Type 0
 Signed P r = Copied signed_of P r
 
-abbrev pub Unsigned : (UnsignedAnswer → Type 0) → CUnsigned → Type 0
+abbrev pub Unsigned : (Answered ℕ → Type 0) → CUnsigned → Type 0
 Unsigned P r = Copied unsigned_of P r
 
 abbrev pub File : (FileAnswer → Type 0) → CFile → Type 0

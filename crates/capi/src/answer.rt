@@ -1,8 +1,9 @@
-// Answers and manners as C has them: numbers in place of enums.
+// Answers and manners as C has them: numbers in place of enums. The two structs stand apart, since an export may return none
+// with a type parameter.
 ghost use Rattle.std.specs.Prelude.{◌≡◌};
 ghost use Rattle.capi.specs.Meaning.{signed_of, unsigned_of, manner_of};
 
-use format::{Manner, SignedAnswer, UnsignedAnswer};
+use format::{Answered, Manner};
 
 // tq_signed
 #[repr(C)]
@@ -22,37 +23,41 @@ pub struct CUnsigned {
     pub value: u64,
 }
 
-pub(crate) fn signed(a: SignedAnswer) -> CSigned
-    ensures { result ≡ signed_of a }
-{
-    match a {
-        SignedAnswer::Done { raw, flag } => CSigned {
-            number: 0,
-            flag: flag as u32,
-            value: raw,
-        },
-        SignedAnswer::Refused(n) => CSigned {
-            number: n,
-            flag: 0,
-            value: 0,
-        },
+impl From<Answered<i64>> for CSigned {
+    ghost from_gives = { λ a r. r ≡ signed_of a };
+
+    fn from(a: Answered<i64>) -> CSigned {
+        match a {
+            Ok(answer) => CSigned {
+                number: 0,
+                flag: u32::from(answer.flag),
+                value: answer.raw,
+            },
+            Err(refusal) => CSigned {
+                number: refusal.number(),
+                flag: 0,
+                value: 0,
+            },
+        }
     }
 }
 
-pub(crate) fn unsigned(a: UnsignedAnswer) -> CUnsigned
-    ensures { result ≡ unsigned_of a }
-{
-    match a {
-        UnsignedAnswer::Done { raw, flag } => CUnsigned {
-            number: 0,
-            flag: flag as u32,
-            value: raw,
-        },
-        UnsignedAnswer::Refused(n) => CUnsigned {
-            number: n,
-            flag: 0,
-            value: 0,
-        },
+impl From<Answered<u64>> for CUnsigned {
+    ghost from_gives = { λ a r. r ≡ unsigned_of a };
+
+    fn from(a: Answered<u64>) -> CUnsigned {
+        match a {
+            Ok(answer) => CUnsigned {
+                number: 0,
+                flag: u32::from(answer.flag),
+                value: answer.raw,
+            },
+            Err(refusal) => CUnsigned {
+                number: refusal.number(),
+                flag: 0,
+                value: 0,
+            },
+        }
     }
 }
 
@@ -60,14 +65,10 @@ pub(crate) fn unsigned(a: UnsignedAnswer) -> CUnsigned
 pub(crate) fn manner(n: u32) -> Manner
     ensures { result ≡ manner_of n }
 {
-    if n == 1 {
-        return Manner::Saturating;
+    match n {
+        1 => Manner::Saturating,
+        2 => Manner::Wrapping,
+        3 => Manner::Overflowing,
+        _ => Manner::Strict,
     }
-    if n == 2 {
-        return Manner::Wrapping;
-    }
-    if n == 3 {
-        return Manner::Overflowing;
-    }
-    Manner::Strict
 }

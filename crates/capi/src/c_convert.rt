@@ -1,5 +1,6 @@
 // tq_convert_*: a raw of one format as a raw of another.
-ghost use Rattle.convert.specs.Promise.{SignedToSigned, SignedToUnsigned, UnsignedToSigned, UnsignedToUnsigned};
+ghost use Rattle.format.specs.Meaning.{signed_kind, unsigned_kind};
+ghost use Rattle.convert.specs.Promise.{Convert};
 ghost use Rattle.capi.specs.Meaning.{manner_of};
 ghost use Rattle.capi.specs.Promise.{Signed, Unsigned};
 
@@ -15,16 +16,16 @@ pub extern "C" fn tq_convert_signed_to_signed(
     frac: u32,
     manner: u32,
 ) -> CSigned
-    ensures { Signed (SignedToSigned raw from_width from_frac width frac (manner_of manner)) result }
+    ensures { Signed (Convert signed_kind signed_kind raw from_width from_frac width frac (manner_of manner)) result }
 {
-    answer::signed(convert::signed::to_signed(
+    convert::convert::<i64, i64>(
         raw,
         from_width,
         from_frac,
         width,
         frac,
         answer::manner(manner),
-    ))
+    ).into()
 }
 
 #[unsafe(no_mangle)]
@@ -36,16 +37,16 @@ pub extern "C" fn tq_convert_signed_to_unsigned(
     frac: u32,
     manner: u32,
 ) -> CUnsigned
-    ensures { Unsigned (SignedToUnsigned raw from_width from_frac width frac (manner_of manner)) result }
+    ensures { Unsigned (Convert signed_kind unsigned_kind raw from_width from_frac width frac (manner_of manner)) result }
 {
-    answer::unsigned(convert::signed::to_unsigned(
+    convert::convert::<i64, u64>(
         raw,
         from_width,
         from_frac,
         width,
         frac,
         answer::manner(manner),
-    ))
+    ).into()
 }
 
 #[unsafe(no_mangle)]
@@ -57,16 +58,16 @@ pub extern "C" fn tq_convert_unsigned_to_signed(
     frac: u32,
     manner: u32,
 ) -> CSigned
-    ensures { Signed (UnsignedToSigned raw from_width from_frac width frac (manner_of manner)) result }
+    ensures { Signed (Convert unsigned_kind signed_kind raw from_width from_frac width frac (manner_of manner)) result }
 {
-    answer::signed(convert::unsigned::to_signed(
+    convert::convert::<u64, i64>(
         raw,
         from_width,
         from_frac,
         width,
         frac,
         answer::manner(manner),
-    ))
+    ).into()
 }
 
 #[unsafe(no_mangle)]
@@ -78,14 +79,14 @@ pub extern "C" fn tq_convert_unsigned_to_unsigned(
     frac: u32,
     manner: u32,
 ) -> CUnsigned
-    ensures { Unsigned (UnsignedToUnsigned raw from_width from_frac width frac (manner_of manner)) result }
+    ensures { Unsigned (Convert unsigned_kind unsigned_kind raw from_width from_frac width frac (manner_of manner)) result }
 {
-    answer::unsigned(convert::unsigned::to_unsigned(
+    convert::convert::<u64, u64>(
         raw,
         from_width,
         from_frac,
         width,
         frac,
         answer::manner(manner),
-    ))
+    ).into()
 }

@@ -4,7 +4,6 @@ ghost use Rattle.filter.specs.Promise.{Runs};
 ghost use Rattle.headroom.specs.Promise.{Heads};
 ghost use Rattle.capi.specs.Promise.{Unsigned};
 
-use crate::answer;
 use crate::answer::CUnsigned;
 
 #[unsafe(no_mangle)]
@@ -20,12 +19,12 @@ pub extern "C" fn tq_filter(
         outputs.old clips.old
         a (state_of state.new) outputs.new clips.new) result }
 {
-    answer::unsigned(filter::run(taps, state, samples, outputs, clips))
+    filter::run(taps, state, samples, outputs, clips).into()
 }
 
 #[unsafe(no_mangle)]
 pub extern "C" fn tq_headroom(taps: &[i16], witness: &mut [i16]) -> CUnsigned
     ensures { Unsigned (λ a. Heads taps.now witness.old a witness.new) result }
 {
-    answer::unsigned(headroom::headroom(taps, witness))
+    headroom::headroom(taps, witness).into()
 }

@@ -1,5 +1,6 @@
 // tq_from_f32_S and tq_from_f64_S: patterns into a format, in the manner that its number stands for.
-ghost use Rattle.from_float.specs.Promise.{SignedF32, SignedF64, UnsignedF32, UnsignedF64};
+ghost use Rattle.format.specs.Meaning.{signed_kind, unsigned_kind};
+ghost use Rattle.from_float.specs.Promise.{F32, F64};
 ghost use Rattle.capi.specs.Meaning.{manner_of};
 ghost use Rattle.capi.specs.Promise.{Signed, Unsigned};
 
@@ -8,16 +9,16 @@ use crate::answer::{CSigned, CUnsigned};
 
 #[unsafe(no_mangle)]
 pub extern "C" fn tq_from_f32_signed(pattern: u32, width: u32, frac: u32, manner: u32) -> CSigned
-    ensures { Signed (SignedF32 pattern width frac (manner_of manner)) result }
+    ensures { Signed (F32 signed_kind pattern width frac (manner_of manner)) result }
 {
-    answer::signed(from_float::signed::from_f32(pattern, width, frac, answer::manner(manner)))
+    from_float::from_f32::<i64>(pattern, width, frac, answer::manner(manner)).into()
 }
 
 #[unsafe(no_mangle)]
 pub extern "C" fn tq_from_f64_signed(pattern: u64, width: u32, frac: u32, manner: u32) -> CSigned
-    ensures { Signed (SignedF64 pattern width frac (manner_of manner)) result }
+    ensures { Signed (F64 signed_kind pattern width frac (manner_of manner)) result }
 {
-    answer::signed(from_float::signed::from_f64(pattern, width, frac, answer::manner(manner)))
+    from_float::from_f64::<i64>(pattern, width, frac, answer::manner(manner)).into()
 }
 
 #[unsafe(no_mangle)]
@@ -27,9 +28,9 @@ pub extern "C" fn tq_from_f32_unsigned(
     frac: u32,
     manner: u32,
 ) -> CUnsigned
-    ensures { Unsigned (UnsignedF32 pattern width frac (manner_of manner)) result }
+    ensures { Unsigned (F32 unsigned_kind pattern width frac (manner_of manner)) result }
 {
-    answer::unsigned(from_float::unsigned::from_f32(pattern, width, frac, answer::manner(manner)))
+    from_float::from_f32::<u64>(pattern, width, frac, answer::manner(manner)).into()
 }
 
 #[unsafe(no_mangle)]
@@ -39,7 +40,7 @@ pub extern "C" fn tq_from_f64_unsigned(
     frac: u32,
     manner: u32,
 ) -> CUnsigned
-    ensures { Unsigned (UnsignedF64 pattern width frac (manner_of manner)) result }
+    ensures { Unsigned (F64 unsigned_kind pattern width frac (manner_of manner)) result }
 {
-    answer::unsigned(from_float::unsigned::from_f64(pattern, width, frac, answer::manner(manner)))
+    from_float::from_f64::<u64>(pattern, width, frac, answer::manner(manner)).into()
 }

@@ -1,8 +1,6 @@
 // tq_abs_S to tq_mean_S: more arithmetic on raws, in the manner that its number stands for.
-ghost use Rattle.further.specs.Promise.{SignedAbs, SignedSignum, SignedRemEuclid, SignedDivEuclid};
-ghost use Rattle.further.specs.Promise.{SignedMulAdd, SignedDist, SignedMean};
-ghost use Rattle.further.specs.Promise.{UnsignedAbs, UnsignedSignum, UnsignedRemEuclid, UnsignedDivEuclid};
-ghost use Rattle.further.specs.Promise.{UnsignedMulAdd, UnsignedDist, UnsignedMean};
+ghost use Rattle.format.specs.Meaning.{signed_kind, unsigned_kind};
+ghost use Rattle.further.specs.Promise.{Abs, Signum, RemEuclid, DivEuclid, MulAdd, Dist, Mean};
 ghost use Rattle.capi.specs.Meaning.{manner_of};
 ghost use Rattle.capi.specs.Promise.{Signed, Unsigned};
 
@@ -11,16 +9,16 @@ use crate::answer::{CSigned, CUnsigned};
 
 #[unsafe(no_mangle)]
 pub extern "C" fn tq_abs_signed(a: i64, width: u32, frac: u32, manner: u32) -> CSigned
-    ensures { Signed (SignedAbs a width frac (manner_of manner)) result }
+    ensures { Signed (Abs signed_kind a width frac (manner_of manner)) result }
 {
-    answer::signed(further::signed::abs(a, width, frac, answer::manner(manner)))
+    further::abs(a, width, frac, answer::manner(manner)).into()
 }
 
 #[unsafe(no_mangle)]
 pub extern "C" fn tq_signum_signed(a: i64, width: u32, frac: u32, manner: u32) -> CSigned
-    ensures { Signed (SignedSignum a width frac (manner_of manner)) result }
+    ensures { Signed (Signum signed_kind a width frac (manner_of manner)) result }
 {
-    answer::signed(further::signed::signum(a, width, frac, answer::manner(manner)))
+    further::signum(a, width, frac, answer::manner(manner)).into()
 }
 
 #[unsafe(no_mangle)]
@@ -31,9 +29,9 @@ pub extern "C" fn tq_rem_euclid_signed(
     frac: u32,
     manner: u32,
 ) -> CSigned
-    ensures { Signed (SignedRemEuclid a b width frac (manner_of manner)) result }
+    ensures { Signed (RemEuclid signed_kind a b width frac (manner_of manner)) result }
 {
-    answer::signed(further::signed::rem_euclid(a, b, width, frac, answer::manner(manner)))
+    further::rem_euclid(a, b, width, frac, answer::manner(manner)).into()
 }
 
 #[unsafe(no_mangle)]
@@ -44,9 +42,9 @@ pub extern "C" fn tq_div_euclid_signed(
     frac: u32,
     manner: u32,
 ) -> CSigned
-    ensures { Signed (SignedDivEuclid a b width frac (manner_of manner)) result }
+    ensures { Signed (DivEuclid signed_kind a b width frac (manner_of manner)) result }
 {
-    answer::signed(further::signed::div_euclid(a, b, width, frac, answer::manner(manner)))
+    further::div_euclid(a, b, width, frac, answer::manner(manner)).into()
 }
 
 #[unsafe(no_mangle)]
@@ -58,37 +56,37 @@ pub extern "C" fn tq_mul_add_signed(
     frac: u32,
     manner: u32,
 ) -> CSigned
-    ensures { Signed (SignedMulAdd a b c width frac (manner_of manner)) result }
+    ensures { Signed (MulAdd signed_kind a b c width frac (manner_of manner)) result }
 {
-    answer::signed(further::signed::mul_add(a, b, c, width, frac, answer::manner(manner)))
+    further::mul_add(a, b, c, width, frac, answer::manner(manner)).into()
 }
 
 #[unsafe(no_mangle)]
 pub extern "C" fn tq_dist_signed(a: i64, b: i64, width: u32, frac: u32, manner: u32) -> CSigned
-    ensures { Signed (SignedDist a b width frac (manner_of manner)) result }
+    ensures { Signed (Dist signed_kind a b width frac (manner_of manner)) result }
 {
-    answer::signed(further::signed::dist(a, b, width, frac, answer::manner(manner)))
+    further::dist(a, b, width, frac, answer::manner(manner)).into()
 }
 
 #[unsafe(no_mangle)]
 pub extern "C" fn tq_mean_signed(a: i64, b: i64, width: u32, frac: u32, manner: u32) -> CSigned
-    ensures { Signed (SignedMean a b width frac (manner_of manner)) result }
+    ensures { Signed (Mean signed_kind a b width frac (manner_of manner)) result }
 {
-    answer::signed(further::signed::mean(a, b, width, frac, answer::manner(manner)))
+    further::mean(a, b, width, frac, answer::manner(manner)).into()
 }
 
 #[unsafe(no_mangle)]
 pub extern "C" fn tq_abs_unsigned(a: u64, width: u32, frac: u32, manner: u32) -> CUnsigned
-    ensures { Unsigned (UnsignedAbs a width frac (manner_of manner)) result }
+    ensures { Unsigned (Abs unsigned_kind a width frac (manner_of manner)) result }
 {
-    answer::unsigned(further::unsigned::abs(a, width, frac, answer::manner(manner)))
+    further::abs(a, width, frac, answer::manner(manner)).into()
 }
 
 #[unsafe(no_mangle)]
 pub extern "C" fn tq_signum_unsigned(a: u64, width: u32, frac: u32, manner: u32) -> CUnsigned
-    ensures { Unsigned (UnsignedSignum a width frac (manner_of manner)) result }
+    ensures { Unsigned (Signum unsigned_kind a width frac (manner_of manner)) result }
 {
-    answer::unsigned(further::unsigned::signum(a, width, frac, answer::manner(manner)))
+    further::signum(a, width, frac, answer::manner(manner)).into()
 }
 
 #[unsafe(no_mangle)]
@@ -99,9 +97,9 @@ pub extern "C" fn tq_rem_euclid_unsigned(
     frac: u32,
     manner: u32,
 ) -> CUnsigned
-    ensures { Unsigned (UnsignedRemEuclid a b width frac (manner_of manner)) result }
+    ensures { Unsigned (RemEuclid unsigned_kind a b width frac (manner_of manner)) result }
 {
-    answer::unsigned(further::unsigned::rem_euclid(a, b, width, frac, answer::manner(manner)))
+    further::rem_euclid(a, b, width, frac, answer::manner(manner)).into()
 }
 
 #[unsafe(no_mangle)]
@@ -112,9 +110,9 @@ pub extern "C" fn tq_div_euclid_unsigned(
     frac: u32,
     manner: u32,
 ) -> CUnsigned
-    ensures { Unsigned (UnsignedDivEuclid a b width frac (manner_of manner)) result }
+    ensures { Unsigned (DivEuclid unsigned_kind a b width frac (manner_of manner)) result }
 {
-    answer::unsigned(further::unsigned::div_euclid(a, b, width, frac, answer::manner(manner)))
+    further::div_euclid(a, b, width, frac, answer::manner(manner)).into()
 }
 
 #[unsafe(no_mangle)]
@@ -126,21 +124,21 @@ pub extern "C" fn tq_mul_add_unsigned(
     frac: u32,
     manner: u32,
 ) -> CUnsigned
-    ensures { Unsigned (UnsignedMulAdd a b c width frac (manner_of manner)) result }
+    ensures { Unsigned (MulAdd unsigned_kind a b c width frac (manner_of manner)) result }
 {
-    answer::unsigned(further::unsigned::mul_add(a, b, c, width, frac, answer::manner(manner)))
+    further::mul_add(a, b, c, width, frac, answer::manner(manner)).into()
 }
 
 #[unsafe(no_mangle)]
 pub extern "C" fn tq_dist_unsigned(a: u64, b: u64, width: u32, frac: u32, manner: u32) -> CUnsigned
-    ensures { Unsigned (UnsignedDist a b width frac (manner_of manner)) result }
+    ensures { Unsigned (Dist unsigned_kind a b width frac (manner_of manner)) result }
 {
-    answer::unsigned(further::unsigned::dist(a, b, width, frac, answer::manner(manner)))
+    further::dist(a, b, width, frac, answer::manner(manner)).into()
 }
 
 #[unsafe(no_mangle)]
 pub extern "C" fn tq_mean_unsigned(a: u64, b: u64, width: u32, frac: u32, manner: u32) -> CUnsigned
-    ensures { Unsigned (UnsignedMean a b width frac (manner_of manner)) result }
+    ensures { Unsigned (Mean unsigned_kind a b width frac (manner_of manner)) result }
 {
-    answer::unsigned(further::unsigned::mean(a, b, width, frac, answer::manner(manner)))
+    further::mean(a, b, width, frac, answer::manner(manner)).into()
 }

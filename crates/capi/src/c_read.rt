@@ -1,5 +1,6 @@
 // tq_read_signed, tq_read_unsigned, tq_literal_signed, tq_literal_unsigned: a text to the nearest number of a format.
-ghost use Rattle.text.specs.Promise.{ReadSigned, ReadUnsigned, LiteralSigned, LiteralUnsigned};
+ghost use Rattle.format.specs.Meaning.{signed_kind, unsigned_kind};
+ghost use Rattle.text.specs.Promise.{Read, Literal};
 ghost use Rattle.capi.specs.Meaning.{manner_of};
 ghost use Rattle.capi.specs.Promise.{Signed, Unsigned};
 
@@ -14,9 +15,9 @@ pub extern "C" fn tq_read_signed(
     radix: u32,
     manner: u32,
 ) -> CSigned
-    ensures { Signed (ReadSigned text.now width frac radix (manner_of manner)) result }
+    ensures { Signed (Read signed_kind text.now width frac radix (manner_of manner)) result }
 {
-    answer::signed(text::signed::read(text, width, frac, radix, answer::manner(manner)))
+    text::read::<i64>(text, width, frac, radix, answer::manner(manner)).into()
 }
 
 #[unsafe(no_mangle)]
@@ -27,21 +28,21 @@ pub extern "C" fn tq_read_unsigned(
     radix: u32,
     manner: u32,
 ) -> CUnsigned
-    ensures { Unsigned (ReadUnsigned text.now width frac radix (manner_of manner)) result }
+    ensures { Unsigned (Read unsigned_kind text.now width frac radix (manner_of manner)) result }
 {
-    answer::unsigned(text::unsigned::read(text, width, frac, radix, answer::manner(manner)))
+    text::read::<u64>(text, width, frac, radix, answer::manner(manner)).into()
 }
 
 #[unsafe(no_mangle)]
 pub extern "C" fn tq_literal_signed(text: &[u8], width: u32, frac: u32) -> CSigned
-    ensures { Signed (LiteralSigned text.now width frac) result }
+    ensures { Signed (Literal signed_kind text.now width frac) result }
 {
-    answer::signed(text::signed::read_literal(text, width, frac))
+    text::read_literal::<i64>(text, width, frac).into()
 }
 
 #[unsafe(no_mangle)]
 pub extern "C" fn tq_literal_unsigned(text: &[u8], width: u32, frac: u32) -> CUnsigned
-    ensures { Unsigned (LiteralUnsigned text.now width frac) result }
+    ensures { Unsigned (Literal unsigned_kind text.now width frac) result }
 {
-    answer::unsigned(text::unsigned::read_literal(text, width, frac))
+    text::read_literal::<u64>(text, width, frac).into()
 }

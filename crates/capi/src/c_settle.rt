@@ -1,11 +1,13 @@
 // tq_settle_signed, tq_settle_unsigned: an exact number, as a sign and two words, into a format.
 // neg is 0 for a number that is not negative.
-ghost use Rattle.format.specs.Promise.{SettleSigned, SettleUnsigned};
+ghost use Rattle.format.specs.Meaning.{signed_kind, unsigned_kind};
+ghost use Rattle.format.specs.Promise.{Settle};
 ghost use Rattle.capi.specs.Meaning.{manner_of, some_of};
 ghost use Rattle.capi.specs.Promise.{Signed, Unsigned};
 
 use crate::answer;
 use crate::answer::{CSigned, CUnsigned};
+use format::Exact;
 
 #[unsafe(no_mangle)]
 pub extern "C" fn tq_settle_signed(
@@ -16,9 +18,10 @@ pub extern "C" fn tq_settle_signed(
     frac: u32,
     manner: u32,
 ) -> CSigned
-    ensures { Signed (SettleSigned (some_of neg) high low width frac (manner_of manner)) result }
+    ensures { Signed (Settle signed_kind (some_of neg) high low width frac (manner_of manner)) result }
 {
-    answer::signed(format::signed::settle(neg != 0, high, low, width, frac, answer::manner(manner)))
+    let x = Exact { neg: neg != 0, high, low };
+    format::settle::<i64>(x, width, frac, answer::manner(manner)).into()
 }
 
 #[unsafe(no_mangle)]
@@ -30,14 +33,8 @@ pub extern "C" fn tq_settle_unsigned(
     frac: u32,
     manner: u32,
 ) -> CUnsigned
-    ensures { Unsigned (SettleUnsigned (some_of neg) high low width frac (manner_of manner)) result }
+    ensures { Unsigned (Settle unsigned_kind (some_of neg) high low width frac (manner_of manner)) result }
 {
-    answer::unsigned(format::unsigned::settle(
-        neg != 0,
-        high,
-        low,
-        width,
-        frac,
-        answer::manner(manner),
-    ))
+    let x = Exact { neg: neg != 0, high, low };
+    format::settle::<u64>(x, width, frac, answer::manner(manner)).into()
 }

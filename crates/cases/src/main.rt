@@ -3,6 +3,7 @@
 
 mod reading;
 
+use format::{Exact, Manner};
 use std::io;
 
 fn main(rt: HostRuntime) -> io::Result<()> {
@@ -18,62 +19,79 @@ fn manners(rt: &impl Print) -> io::Result<()> {
 }
 
 fn narrow(rt: &impl Print) -> io::Result<()> {
-    shown::signed(
+    shown::answer(
         rt,
         b"W 8 signed F 4, 7.96875 is 128 steps, strict",
-        format::signed::settle(false, 0, 128, 8, 4, format::Manner::Strict),
+        format::settle::<i64>(steps(128), 8, 4, Manner::Strict),
     )?;
-    shown::signed(
+    shown::answer(
         rt,
         b"W 8 signed F 4, -8.03125 is -128 steps, strict",
-        format::signed::settle(true, 0, 128, 8, 4, format::Manner::Strict),
+        format::settle::<i64>(below(128), 8, 4, Manner::Strict),
     )?;
-    shown::signed(
+    shown::answer(
         rt,
         b"W 8 signed F 0, 127.5 is 128 steps, wrapping",
-        format::signed::settle(false, 0, 128, 8, 0, format::Manner::Wrapping),
+        format::settle::<i64>(steps(128), 8, 0, Manner::Wrapping),
     )?;
-    shown::signed(
+    shown::answer(
         rt,
         b"W 8 signed F 0, 127.5 is 128 steps, saturating",
-        format::signed::settle(false, 0, 128, 8, 0, format::Manner::Saturating),
+        format::settle::<i64>(steps(128), 8, 0, Manner::Saturating),
     )?;
-    shown::signed(
+    shown::answer(
         rt,
         b"W 8 signed F 0, 127.5 is 128 steps, overflowing",
-        format::signed::settle(false, 0, 128, 8, 0, format::Manner::Overflowing),
+        format::settle::<i64>(steps(128), 8, 0, Manner::Overflowing),
     )?;
-    shown::unsigned(
+    shown::answer(
         rt,
         b"W 8 unsigned F 0, -0.4 is -0 steps, strict",
-        format::unsigned::settle(true, 0, 0, 8, 0, format::Manner::Strict),
+        format::settle::<u64>(below(0), 8, 0, Manner::Strict),
     )?;
-    shown::unsigned(
+    shown::answer(
         rt,
         b"W 8 unsigned F 0, -0.6 is -1 steps, strict",
-        format::unsigned::settle(true, 0, 1, 8, 0, format::Manner::Strict),
+        format::settle::<u64>(below(1), 8, 0, Manner::Strict),
     )
 }
 
 fn wider(rt: &impl Print) -> io::Result<()> {
-    shown::signed(
+    shown::answer(
         rt,
         b"I1F15, -1 is -32768 steps, strict",
-        format::signed::settle(true, 0, 32768, 16, 15, format::Manner::Strict),
+        format::settle::<i64>(below(32768), 16, 15, Manner::Strict),
     )?;
-    shown::signed(
+    shown::answer(
         rt,
         b"I1F15, 1 is 32768 steps, strict",
-        format::signed::settle(false, 0, 32768, 16, 15, format::Manner::Strict),
+        format::settle::<i64>(steps(32768), 16, 15, Manner::Strict),
     )?;
-    shown::signed(
+    shown::answer(
         rt,
         b"I1F15, 0.99998 is 32767 steps, strict",
-        format::signed::settle(false, 0, 32767, 16, 15, format::Manner::Strict),
+        format::settle::<i64>(steps(32767), 16, 15, Manner::Strict),
     )?;
-    shown::signed(
+    shown::answer(
         rt,
         b"W 32 F 16 signed, maximum plus one step, wrapping",
-        format::signed::settle(false, 0, 2147483648, 32, 16, format::Manner::Wrapping),
+        format::settle::<i64>(steps(2147483648), 32, 16, Manner::Wrapping),
     )
+}
+
+// A number of steps, and one below 0.
+fn steps(low: u64) -> Exact {
+    Exact {
+        neg: false,
+        high: 0,
+        low,
+    }
+}
+
+fn below(low: u64) -> Exact {
+    Exact {
+        neg: true,
+        high: 0,
+        low,
+    }
 }

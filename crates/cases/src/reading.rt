@@ -10,132 +10,132 @@ pub fn plain(rt: &impl Print) -> io::Result<()> {
 }
 
 fn four_fraction_bits(rt: &impl Print) -> io::Result<()> {
-    shown::signed(
+    shown::answer(
         rt,
         b"W 8 signed F 4, 7.96875, strict",
-        text::signed::read(b"7.96875", 8, 4, 10, Manner::Strict),
+        text::read::<i64>(b"7.96875", 8, 4, 10, Manner::Strict),
     )?;
-    shown::signed(
+    shown::answer(
         rt,
         b"W 8 signed F 4, -8.03125, strict",
-        text::signed::read(b"-8.03125", 8, 4, 10, Manner::Strict),
+        text::read::<i64>(b"-8.03125", 8, 4, 10, Manner::Strict),
     )?;
-    shown::signed(
+    shown::answer(
         rt,
         b"W 8 signed F 4, 0.03125, strict",
-        text::signed::read(b"0.03125", 8, 4, 10, Manner::Strict),
+        text::read::<i64>(b"0.03125", 8, 4, 10, Manner::Strict),
     )?;
-    shown::signed(
+    shown::answer(
         rt,
         b"W 8 signed F 4, 0.09375, strict",
-        text::signed::read(b"0.09375", 8, 4, 10, Manner::Strict),
+        text::read::<i64>(b"0.09375", 8, 4, 10, Manner::Strict),
     )
 }
 
 fn no_fraction_bits(rt: &impl Print) -> io::Result<()> {
-    shown::signed(
+    shown::answer(
         rt,
         b"W 8 signed F 0, 127.5, strict",
-        text::signed::read(b"127.5", 8, 0, 10, Manner::Strict),
+        text::read::<i64>(b"127.5", 8, 0, 10, Manner::Strict),
     )?;
-    shown::signed(
+    shown::answer(
         rt,
         b"W 8 signed F 0, 127.5, wrapping",
-        text::signed::read(b"127.5", 8, 0, 10, Manner::Wrapping),
+        text::read::<i64>(b"127.5", 8, 0, 10, Manner::Wrapping),
     )?;
-    shown::signed(
+    shown::answer(
         rt,
         b"W 8 signed F 0, 127.5, saturating",
-        text::signed::read(b"127.5", 8, 0, 10, Manner::Saturating),
+        text::read::<i64>(b"127.5", 8, 0, 10, Manner::Saturating),
     )?;
-    shown::signed(
+    shown::answer(
         rt,
         b"W 8 signed F 0, -128.5, strict",
-        text::signed::read(b"-128.5", 8, 0, 10, Manner::Strict),
+        text::read::<i64>(b"-128.5", 8, 0, 10, Manner::Strict),
     )?;
-    shown::unsigned(
+    shown::answer(
         rt,
         b"W 8 unsigned F 0, -0.4, strict",
-        text::unsigned::read(b"-0.4", 8, 0, 10, Manner::Strict),
+        text::read::<u64>(b"-0.4", 8, 0, 10, Manner::Strict),
     )?;
-    shown::unsigned(
+    shown::answer(
         rt,
         b"W 8 unsigned F 0, -0.6, strict",
-        text::unsigned::read(b"-0.6", 8, 0, 10, Manner::Strict),
+        text::read::<u64>(b"-0.6", 8, 0, 10, Manner::Strict),
     )
 }
 
 fn taps(rt: &impl Print) -> io::Result<()> {
-    shown::signed(
+    shown::answer(
         rt,
         b"I1F15, -1, strict",
-        text::signed::read(b"-1", 16, 15, 10, Manner::Strict),
+        text::read::<i64>(b"-1", 16, 15, 10, Manner::Strict),
     )?;
-    shown::signed(
+    shown::answer(
         rt,
         b"I1F15, 1, strict",
-        text::signed::read(b"1", 16, 15, 10, Manner::Strict),
+        text::read::<i64>(b"1", 16, 15, 10, Manner::Strict),
     )?;
-    shown::signed(
+    shown::answer(
         rt,
         b"I1F15, 0.99998, strict",
-        text::signed::read(b"0.99998", 16, 15, 10, Manner::Strict),
+        text::read::<i64>(b"0.99998", 16, 15, 10, Manner::Strict),
     )?;
-    shown::signed(
+    shown::answer(
         rt,
         b"I1F15, 0.99999, strict",
-        text::signed::read(b"0.99999", 16, 15, 10, Manner::Strict),
+        text::read::<i64>(b"0.99999", 16, 15, 10, Manner::Strict),
     )
 }
 
 // The odd bit is in the integer.
 fn ties(rt: &impl Print) -> io::Result<()> {
-    shown::signed(
+    shown::answer(
         rt,
         b"W 8 signed F 0, 1.5, strict",
-        text::signed::read(b"1.5", 8, 0, 10, Manner::Strict),
+        text::read::<i64>(b"1.5", 8, 0, 10, Manner::Strict),
     )?;
-    shown::signed(
+    shown::answer(
         rt,
         b"W 8 signed F 0, 2.5, strict",
-        text::signed::read(b"2.5", 8, 0, 10, Manner::Strict),
+        text::read::<i64>(b"2.5", 8, 0, 10, Manner::Strict),
     )
 }
 
 pub fn literals(rt: &impl Print) -> io::Result<()> {
-    shown::signed(
+    shown::answer(
         rt,
         b"I1F15, literal +1",
-        text::signed::read_literal(b"+1", 16, 15),
+        text::read_literal::<i64>(b"+1", 16, 15),
     )?;
-    shown::signed(
+    shown::answer(
         rt,
         b"I1F15, literal 0x-1",
-        text::signed::read_literal(b"0x-1", 16, 15),
+        text::read_literal::<i64>(b"0x-1", 16, 15),
     )?;
-    shown::signed(
+    shown::answer(
         rt,
         b"I1F15, empty literal",
-        text::signed::read_literal(b"", 16, 15),
+        text::read_literal::<i64>(b"", 16, 15),
     )?;
-    shown::signed(
+    shown::answer(
         rt,
         b"I1F15, literal -",
-        text::signed::read_literal(b"-", 16, 15),
+        text::read_literal::<i64>(b"-", 16, 15),
     )?;
-    shown::unsigned(
+    shown::answer(
         rt,
         b"W 16 unsigned F 15, literal -",
-        text::unsigned::read_literal(b"-", 16, 15),
+        text::read_literal::<u64>(b"-", 16, 15),
     )?;
-    shown::signed(
+    shown::answer(
         rt,
         b"I1F15, literal 0X1",
-        text::signed::read_literal(b"0X1", 16, 15),
+        text::read_literal::<i64>(b"0X1", 16, 15),
     )?;
-    shown::signed(
+    shown::answer(
         rt,
         b"I1F15, literal -0x_0.8",
-        text::signed::read_literal(b"-0x_0.8", 16, 15),
+        text::read_literal::<i64>(b"-0x_0.8", 16, 15),
     )
 }

@@ -6,38 +6,24 @@ use mathlib.Core.List.{List, [], ◌∷◌, ◌++◌, map, append_assoc, append-
 use Prim.Native.Nat.{ℕ, zero, suc, ◌+◌, ◌-◌, ◌*◌, ◌/◌, ◌%◌, ◌^◌, ◌≤◌, ◌<◌}
 use native.Mathlib.Nat.{div-eq_of_lt, mod-eq_of_lt, mod-lt, div-add-mod', lt_of_mul-lt-mul_right, mul-add-div_right, mul-add-mod_self_right, add-zero}
 use native.Mathlib.Omega.{arith}
-use native.Mathlib.Numerals.{add-one}
 use lib.Dec.{eqb}
-use lib.ListN.{length, take, drop, set, replicate, length-set, length-append, length-replicate}
-use lib.Seq.{drop-cons, drop-set-lt, get_or-set_same, length-take-le, take-suc-set, take-take, take-append_seam}
 use borrow.Author.Tests.{eqb-true, eqb-false, ne_eqb}
 use Rattle.decimal.specs.Meaning.{byte_of, whole_text, fraction_by}
 use Rattle.decimal.specs.Digits.{whole-text-last, whole-text-more, fraction-none, fraction-more, ends_next, ends-none}
-use Rattle.decimal.specs.Layout.{Ends, spare_of}
+use Rattle.decimal.specs.Layout.{Ends}
+use Rattle.decimal.specs.Laid.{unless_zero}
 
--- a store just before what is written
-pub before : (text : List ℕ) (at v : ℕ) → 0 < at → at ≤ length text → drop (at - 1) (set text (at - 1) v) ≡ v ∷ drop at text
-before text at v h l =
-    let i = at - 1 in
-    let low : i < length text = omega arith in
-    let e : suc i ≡ at = omega arith in
-    drop-cons (set text i v) i 0 (rw length-set low)
-    ∙ ap₂ (λ (x : ℕ) (r : List ℕ). x ∷ r) (get_or-set_same text i v 0 low) (drop-set-lt (suc i) text i v (omega arith) ∙ ap (λ (k : ℕ). drop k text) e)
-
-module _ (rest at v : ℕ) (text : List ℕ) {goal : List ℕ} (h : 0 < at) (l : at ≤ length text) (e : whole_text rest ++ drop at text ≡ goal) where
-  pub whole-step : 10 ≤ rest → v ≡ byte_of (rest % 10) → whole_text (rest / 10) ++ drop (at - 1) (set text (at - 1) v) ≡ goal
+-- a digit more of the whole part, before what is written of it
+module _ (rest v : ℕ) (text : List ℕ) {goal : List ℕ} (e : whole_text rest ++ text ≡ goal) where
+  pub whole-step : 10 ≤ rest → v ≡ byte_of (rest % 10) → whole_text (rest / 10) ++ (v ∷ text) ≡ goal
   whole-step m b =
-      ap (λ (r : List ℕ). whole_text (rest / 10) ++ r) (before text at v h l ∙ ap (λ (x : ℕ). x ∷ drop at text) b)
-      ∙ sym (append_assoc (whole_text (rest / 10)) (byte_of (rest % 10) ∷ []) (drop at text))
-      ∙ ap (λ (r : List ℕ). r ++ drop at text) (sym (whole-text-more rest m))
+      ap (λ (x : ℕ). whole_text (rest / 10) ++ (x ∷ text)) b
+      ∙ sym (append_assoc (whole_text (rest / 10)) (byte_of (rest % 10) ∷ []) text)
+      ∙ ap (λ (r : List ℕ). r ++ text) (sym (whole-text-more rest m))
       ∙ e
 
-  pub whole-stop : rest < 10 → v ≡ byte_of rest → drop (at - 1) (set text (at - 1) v) ≡ goal
-  whole-stop m b =
-      before text at v h l
-      ∙ ap (λ (x : ℕ). x ∷ drop at text) b
-      ∙ ap (λ (r : List ℕ). r ++ drop at text) (sym (whole-text-last rest m))
-      ∙ e
+  pub whole-stop : rest < 10 → v ≡ byte_of rest → v ∷ text ≡ goal
+  whole-stop m b = ap (λ (x : ℕ). x ∷ text) b ∙ ap (λ (r : List ℕ). r ++ text) (sym (whole-text-last rest m)) ∙ e
 
 -- a number of two words is its upper word times m, and the rest
 split : (high low x : ℕ) {m : ℕ} → 0 < m → low < m → high * m + low ≡ x → (high ≡ x / m) × (low ≡ x % m)
@@ -51,32 +37,12 @@ pub ends_more : (m j rest : ℕ) → rest < m → (rest ≡ 0 → ⊥) → Ends 
 ends_more m zero rest h n e = absurd (n (ends-none m rest h e))
 ends_more m (suc j) rest h n e = omega arith
 
--- two stores, one after the other
-after_two : (text : List ℕ) (end a b : ℕ) → end + 1 < length text → take (end + 2) (set (set text end a) (end + 1) b) ≡ take end text ++ (a ∷ b ∷ [])
-after_two text end a b l =
-    let two : end + 2 ≡ suc (end + 1) = omega arith in
-    let low : end < length text = omega arith in
-    ap (λ (k : ℕ). take k (set (set text end a) (end + 1) b)) two
-    ∙ take-suc-set (set text end a) (end + 1) b (rw length-set l)
-    ∙ ap (λ (r : List ℕ). r ++ (b ∷ [])) (ap (λ (k : ℕ). take k (set text end a)) (add-one end) ∙ take-suc-set text end a low)
-    ∙ append_assoc (take end text) (a ∷ []) (b ∷ [])
-
-pub spare-none : (digit rest : ℕ) → (rest ≡ 0 → ⊥) → spare_of digit rest ≡ 0
-unfolding spare_of
-spare-none digit rest h = go (eqb digit 0)
-  where
-    go : (t : Bool) → ◌≡◌ {A = ℕ} (cond t (cond (eqb rest 0) 1 0) 0) 0
-    go true = rw (ne_eqb rest 0 h)
-    go false = refl
-
-pub spare-most : (digit rest : ℕ) → spare_of digit rest ≤ 1
-unfolding spare_of
-spare-most digit rest = go (eqb digit 0) (eqb rest 0)
-  where
-    go : (t u : Bool) → cond t (cond u 1 0) 0 ≤ 1
-    go true true = omega arith
-    go true false = omega arith
-    go false u = omega arith
+-- the text is the goal, but for a last zero
+pub record Last (text goal : List ℕ) : Type 0 where
+  pub front : List ℕ
+  pub byte : ℕ
+  pub is : text ≡ front ++ (byte ∷ [])
+  pub whole : front ++ unless_zero byte ≡ goal
 
 -- A pair of digits: the word above a hundred times what is left is the next two digits, and the word below is what they leave.
 module _ (m rest high low : ℕ) (p : 0 < m) (h : low < m) (e : high * m + low ≡ rest * 100) where
@@ -108,16 +74,10 @@ module _ (m rest high low : ℕ) (p : 0 < m) (h : low < m) (e : high * m + low �
   second_is = omega (arith, pair.0, two-digit)
 
   -- the second is no zero to spare where the first left something
-  no-spare : (left ≡ 0 → ⊥) → spare_of (high % 10) low ≡ 0
-  unfolding spare_of
-  no-spare n = go (eqb (high % 10) 0) refl (eqb low 0) refl
-    where
-      go : (t : Bool) → eqb (high % 10) 0 ≡ t → (u : Bool) → eqb low 0 ≡ u → ◌≡◌ {A = ℕ} (cond t (cond u 1 0) 0) 0
-      go true x true y =
-          let zero-two : two * m ≡ 0 * m = ap (λ (v : ℕ). v * m) (sym second_is ∙ eqb-true (high % 10) 0 x) in
-          absurd (n (omega (arith, zero-two, div-add-mod' (left * 10) m, pair.1, eqb-true low 0 y)))
-      go true x false y = refl
-      go false x u y = refl
+  no-spare : (left ≡ 0 → ⊥) → low ≡ 0 → high % 10 ≡ 0 → ⊥
+  no-spare n z t =
+      let zero-two : two * m ≡ 0 * m = ap (λ (v : ℕ). v * m) (sym second_is ∙ t) in
+      n (omega (arith, zero-two, div-add-mod' (left * 10) m, pair.1))
 
   -- and one where it left nothing
   all-spare : left ≡ 0 → (low ≡ 0) × (high % 10 ≡ 0)
@@ -136,52 +96,63 @@ module _ (m rest high low : ℕ) (p : 0 < m) (h : low < m) (e : high * m + low �
           let k : suc (suc j) - 2 ≡ j = omega arith in
           rw (k, pair.1) (ends_next j m left (ends_next (suc j) m rest t))
 
-  pub pair_step : (j end a b : ℕ) (text : List ℕ) {goal : List ℕ} → rest < m → (rest ≡ 0 → ⊥) → Ends j m rest → end + 1 < length text
-      → a ≡ byte_of (high / 10) → b ≡ byte_of (high % 10) → take end text ++ map byte_of (fraction_by m j rest) ≡ goal
-      → take (end + 2) (set (set text end a) (end + 1) b) ++ map byte_of (fraction_by m (j - 2) low) ≡ goal ++ replicate (spare_of (high % 10) low) 48
-  unfolding spare_of
-  pair_step j end a b text {goal} r n t l ea eb g = stored ∙ go j t g (eqb left 0) refl
-    where
-      stored : take (end + 2) (set (set text end a) (end + 1) b) ++ map byte_of (fraction_by m (j - 2) low)
-          ≡ take end text ++ (byte_of one ∷ byte_of (high % 10) ∷ map byte_of (fraction_by m (j - 2) low))
-      stored =
-          ap (λ (s : List ℕ). s ++ map byte_of (fraction_by m (j - 2) low)) (after_two text end a b l)
-          ∙ append_assoc (take end text) (a ∷ b ∷ []) (map byte_of (fraction_by m (j - 2) low))
-          ∙ ap₂ (λ (x y : ℕ). take end text ++ (x ∷ y ∷ map byte_of (fraction_by m (j - 2) low))) (ea ∙ ap byte_of first-is) eb
+  -- both behind the text
+  behind : (a b : ℕ) (text ds : List ℕ) → a ≡ byte_of (high / 10) → b ≡ byte_of (high % 10)
+      → text ++ (a ∷ []) ++ (b ∷ []) ++ ds ≡ text ++ (byte_of one ∷ byte_of two ∷ ds)
+  behind a b text ds ea eb =
+      append_assoc (text ++ (a ∷ [])) (b ∷ []) ds
+      ∙ append_assoc text (a ∷ []) (b ∷ ds)
+      ∙ ap₂ (λ (x y : ℕ). text ++ (x ∷ y ∷ ds)) (ea ∙ ap byte_of first-is) (eb ∙ ap byte_of second_is)
 
-      go : (j : ℕ) → Ends j m rest → take end text ++ map byte_of (fraction_by m j rest) ≡ goal → (u : Bool) → eqb left 0 ≡ u
-          → take end text ++ (byte_of one ∷ byte_of (high % 10) ∷ map byte_of (fraction_by m (j - 2) low)) ≡ goal ++ replicate (spare_of (high % 10) low) 48
-      go zero t g u z = absurd (n (ends-none m rest r t))
-      go (suc j) t g true z =
-          let none = eqb-true left 0 z in
-          let s = all-spare none in
-          let one_left : fraction_by m (suc j) rest ≡ one ∷ [] = fraction-more m j rest n ∙ ap (λ (v : ℕ). one ∷ fraction_by m j v) none
-          ∙ ap (λ (ds : List ℕ). one ∷ ds) (fraction-none m j) in
-          let whole : take end text ++ (byte_of one ∷ []) ≡ goal = ap (λ (ds : List ℕ). take end text ++ map byte_of ds) (sym one_left) ∙ g in
-          let gone : fraction_by m (suc j - 2) low ≡ [] = ap (fraction_by m (suc j - 2)) s.0 ∙ fraction-none m (suc j - 2) in
-          ap₂ (λ (x : ℕ) (ds : List ℕ). take end text ++ (byte_of one ∷ byte_of x ∷ map byte_of ds)) s.1 gone
-          ∙ sym (append_assoc (take end text) (byte_of one ∷ []) (48 ∷ []))
-          ∙ ap (λ (q : List ℕ). q ++ (48 ∷ [])) whole
-          ∙ ap₂ (λ (x y : ℕ). goal ++ replicate (spare_of x y) 48) (sym s.1) (sym s.0)
-      go (suc zero) t g false z = absurd (eqb-false left 0 z (ends-none m left (mod-lt (rest * 10) p) (ends_next 0 m rest t)))
-      go (suc (suc j)) t g false z =
-          let k : suc (suc j) - 2 ≡ j = omega arith in
-          let some = eqb-false left 0 z in
-          let two-left : fraction_by m (suc (suc j)) rest ≡ one ∷ two ∷ fraction_by m j (left * 10 % m) =
-          fraction-more m (suc j) rest n ∙ ap (λ (ds : List ℕ). one ∷ ds) (fraction-more m j left some) in
-          ap₂ (λ (x : ℕ) (ds : List ℕ). take end text ++ (byte_of one ∷ byte_of x ∷ map byte_of ds)) second_is (ap₂ (fraction_by m) k pair.1)
-          ∙ ap (λ (ds : List ℕ). take end text ++ map byte_of ds) (sym two-left)
-          ∙ g
-          ∙ sym (append-nil goal)
-          ∙ ap (λ (c : ℕ). goal ++ replicate c 48) (sym (no-spare some))
+  module _ (a b : ℕ) (text goal : List ℕ) (r : rest < m) (n : rest ≡ 0 → ⊥) (ea : a ≡ byte_of (high / 10)) (eb : b ≡ byte_of (high % 10)) where
+    two-more : (j : ℕ) → (left ≡ 0 → ⊥) → text ++ map byte_of (fraction_by m (suc (suc j)) rest) ≡ goal
+        → text ++ (a ∷ []) ++ (b ∷ []) ++ map byte_of (fraction_by m j low) ≡ goal
+    two-more j some g =
+        let two-left : fraction_by m (suc (suc j)) rest ≡ one ∷ two ∷ fraction_by m j (left * 10 % m) =
+        fraction-more m (suc j) rest n ∙ ap (λ (ds : List ℕ). one ∷ ds) (fraction-more m j left some) in
+        behind a b text (map byte_of (fraction_by m j low)) ea eb
+        ∙ ap (λ (x : ℕ). text ++ (byte_of one ∷ byte_of two ∷ map byte_of (fraction_by m j x))) pair.1
+        ∙ ap (λ (ds : List ℕ). text ++ map byte_of ds) (sym two-left)
+        ∙ g
 
--- nothing is left: what is written is the goal and the zeros to spare
-pub fraction-stop : (m j rest end zeros : ℕ) (text : List ℕ) {goal : List ℕ} → rest ≡ 0 → end ≤ length text
-    → take end text ++ map byte_of (fraction_by m j rest) ≡ goal ++ replicate zeros 48 → take (end - zeros) text ≡ goal
-fraction-stop m j rest end zeros text {goal} z l g =
-    let all : take end text ≡ goal ++ replicate zeros 48 =
-    sym (append-nil (take end text)) ∙ ap (λ (ds : List ℕ). take end text ++ map byte_of ds) (sym (ap (fraction_by m j) z ∙ fraction-none m j)) ∙ g in
-    let size : end ≡ length goal + zeros = sym (length-take-le end text l) ∙ ap length all ∙ length-append goal (replicate zeros 48)
-    ∙ ap (λ (n : ℕ). length goal + n) (length-replicate zeros 48) in
-    let cut : end - zeros ≡ length goal = omega (arith, size) in
-    sym (take-take (end - zeros) end text (omega arith)) ∙ ap₂ take cut all ∙ take-append_seam goal (replicate zeros 48)
+    pub pair_more : (j : ℕ) → Ends j m rest → text ++ map byte_of (fraction_by m j rest) ≡ goal → (low ≡ 0 → ⊥)
+        → text ++ (a ∷ []) ++ (b ∷ []) ++ map byte_of (fraction_by m (j - 2) low) ≡ goal
+    pair_more j t g w = go j t g (eqb left 0) refl
+      where
+        go : (j : ℕ) → Ends j m rest → text ++ map byte_of (fraction_by m j rest) ≡ goal → (u : Bool) → eqb left 0 ≡ u
+            → text ++ (a ∷ []) ++ (b ∷ []) ++ map byte_of (fraction_by m (j - 2) low) ≡ goal
+        go j t g true z = absurd (w (all-spare (eqb-true left 0 z)).0)
+        go zero t g false z = absurd (n (ends-none m rest r t))
+        go (suc zero) t g false z = absurd (eqb-false left 0 z (ends-none m left (mod-lt (rest * 10) p) (ends_next 0 m rest t)))
+        go (suc (suc j)) t g false z =
+            let k : suc (suc j) - 2 ≡ j = omega arith in
+            ap (λ (i : ℕ). text ++ (a ∷ []) ++ (b ∷ []) ++ map byte_of (fraction_by m i low)) k ∙ two-more j (eqb-false left 0 z) g
+
+    pub pair_last : (j : ℕ) → Ends j m rest → text ++ map byte_of (fraction_by m j rest) ≡ goal → low ≡ 0 → Last (text ++ (a ∷ []) ++ (b ∷ [])) goal
+    unfolding unless_zero
+    pair_last j t g w = record { front = text ++ (a ∷ []); byte = b; is = refl; whole = go j t g (eqb left 0) refl }
+      where
+        go : (j : ℕ) → Ends j m rest → text ++ map byte_of (fraction_by m j rest) ≡ goal → (u : Bool) → eqb left 0 ≡ u
+            → text ++ (a ∷ []) ++ cond (eqb b 48) [] (b ∷ []) ≡ goal
+        go zero t g u z = absurd (n (ends-none m rest r t))
+        go (suc j) t g true z =
+            let none = eqb-true left 0 z in
+            let zero-byte : b ≡ 48 = eb ∙ ap byte_of (all-spare none).1 in
+            let one_left : fraction_by m (suc j) rest ≡ one ∷ [] = fraction-more m j rest n ∙ ap (λ (v : ℕ). one ∷ fraction_by m j v) none
+            ∙ ap (λ (ds : List ℕ). one ∷ ds) (fraction-none m j) in
+            rw zero-byte (
+            append-nil (text ++ (a ∷ []))
+            ∙ ap (λ (x : ℕ). text ++ (x ∷ [])) (ea ∙ ap byte_of first-is)
+            ∙ ap (λ (ds : List ℕ). text ++ map byte_of ds) (sym one_left)
+            ∙ g
+            )
+        go (suc zero) t g false z = absurd (eqb-false left 0 z (ends-none m left (mod-lt (rest * 10) p) (ends_next 0 m rest t)))
+        go (suc (suc j)) t g false z =
+            let some = eqb-false left 0 z in
+            let kept : b ≡ 48 → ⊥ = λ q. no-spare some w (omega (arith, eb)) in
+            let nothing : fraction_by m j low ≡ [] = ap (fraction_by m j) w ∙ fraction-none m j in
+            rw (ne_eqb b 48 kept) (
+            sym (append-nil (text ++ (a ∷ []) ++ (b ∷ [])))
+            ∙ ap (λ (ds : List ℕ). text ++ (a ∷ []) ++ (b ∷ []) ++ map byte_of ds) (sym nothing)
+            ∙ two-more j some g
+            )

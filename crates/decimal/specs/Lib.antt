@@ -1,5 +1,6 @@
 pub mod Meaning
 pub mod Layout
+pub mod Laid
 pub mod Digits
 pub mod Promise
 pub mod Cases

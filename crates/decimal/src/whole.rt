@@ -1,46 +1,38 @@
 // The digits before the point.
-ghost use Rattle.std.specs.Prelude.{◌≡◌, ◌++◌, ◌+◌, ◌/◌, ◌^◌, ◌≤◌, length, drop};
+ghost use Rattle.std.specs.Prelude.{◌≡◌, ◌++◌, ◌+◌, ◌/◌, ◌^◌, ◌≤◌, ◌<◌};
 ghost use Rattle.decimal.specs.Meaning.{whole_text};
-ghost use Rattle.decimal.specs.Layout.{places, point};
+ghost use Rattle.decimal.specs.Laid.{laid};
 
-use crate::{PLACES, POINT};
+use crate::layout::Layout;
 
-// The digits of the whole part, the last one just before the point; where they start.
-pub(crate) fn write(text: &mut [u8; PLACES], magnitude: u64, frac: u32) -> usize
-    requires { (frac ≤ 64) × (length text.old ≡ places) }
-    ensures { (result + length (whole_text (magnitude / 2 ^ frac)) ≡ point)
-        × (drop result text.new ≡ whole_text (magnitude / 2 ^ frac) ++ drop point text.old)
-        × (length text.new ≡ places) }
+// The digits of the whole part before the text. One place is left for a sign.
+pub(crate) fn write(text: &mut Layout, magnitude: u64, frac: u32)
+    requires bits { frac ≤ 64 }
+    requires room { 20 < text.old.start }
+    ensures room { 0 < text.new.start }
+    ensures text { laid text.new ≡ whole_text (magnitude / 2 ^ frac) ++ laid text.old }
 {
-    digits(text, part(magnitude, frac))
+    digits(text, part(magnitude, frac));
 }
 
-// The whole part. A shift by 64 must not occur.
+// The whole part: with 64 fraction bits there is none.
 fn part(magnitude: u64, frac: u32) -> u64
     requires { frac ≤ 64 }
     ensures { result ≡ magnitude / 2 ^ frac }
 {
-    if frac < 64 {
-        return magnitude >> frac;
-    }
-    0
+    magnitude.checked_shr(frac).unwrap_or(0)
 }
 
 // The digits of n, from the last one to the first.
-fn digits(text: &mut [u8; PLACES], n: u64) -> usize
-    requires { length text.old ≡ places }
-    ensures { (result + length (whole_text n) ≡ point)
-        × (drop result text.new ≡ whole_text n ++ drop point text.old)
-        × (length text.new ≡ places) }
+fn digits(text: &mut Layout, n: u64)
+    requires { 20 < text.old.start }
+    ensures room { 0 < text.new.start }
+    ensures text { laid text.new ≡ whole_text n ++ laid text.old }
 {
-    let mut at = POINT;
     let mut rest = n;
     while 10 <= rest {
-        at -= 1;
-        text[at] = crate::byte(rest % 10);
-        rest = rest / 10;
+        text.prepend(crate::byte(rest % 10));
+        rest /= 10;
     }
-    at -= 1;
-    text[at] = crate::byte(rest);
-    at
+    text.prepend(crate::byte(rest));
 }

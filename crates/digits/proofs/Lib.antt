@@ -1,3 +1,3 @@
+pub mod Ends
 pub mod Steps
-pub mod Turns
 pub mod Theorems

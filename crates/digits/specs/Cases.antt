@@ -1,8 +1,7 @@
 -- Runs and their views, read off the meaning by computation. Assumes nothing.
-use Rattle.std.specs.Prelude.{◌≡◌, refl}
+use Rattle.std.specs.Prelude.{◌≡◌, refl, Some, None}
 use Prim.Native.String.{String}
 use Rattle.laws.specs.Text.{bytes}
-use Rattle.digits.specs.declared.Digit.TheVariants.{Is, Nothing}
 use Rattle.digits.specs.Meaning.{is_und, is_zero, digits_of, take_while, drop_while, take_back, drop_back, trimmed}
 use Rattle.digits.specs.Meaning.{unds_front, unds_back, head_of, tail_of, upto_of, from_of, first_of, last_of}
 use Rattle.digits.specs.Meaning.{leading_zeros, trailing_zeros, Part, new_part, upto_part, from_part, Slice, after}
@@ -33,9 +32,9 @@ second-one run r e p = rw e at p.place
 
 digits :
     (digits_of (bytes "1_2__3") ≡ bytes "123")
-    × (first_of (digits_of (bytes "1_2__3")) ≡ Is 49)
-    × (last_of (digits_of (bytes "1_2__3")) ≡ Is 51)
-    × (first_of (digits_of (bytes "__")) ≡ Nothing)
+    × (first_of (digits_of (bytes "1_2__3")) ≡ Some 49)
+    × (last_of (digits_of (bytes "1_2__3")) ≡ Some 51)
+    × (first_of (digits_of (bytes "__")) ≡ None)
     × (leading_zeros (digits_of (bytes "0_0_10")) ≡ 2)
     × (trailing_zeros (digits_of (bytes "0_0_10")) ≡ 1)
     × (trailing_zeros (digits_of (bytes "0_0")) ≡ 2)

@@ -1,9 +1,7 @@
 -- What a digit view is: document 01, module 1. A run is the list of the bytes between two places of the text.
 -- (The second layer is the crate `digits_exp`.) Assumes nothing.
-use Rattle.std.specs.Prelude.{◌≡◌, Bool, false, cond, List, [], ◌∷◌, ◌++◌, reverse, ℕ, ◌+◌, ◌-◌, length, take, drop, eqb}
+use Rattle.std.specs.Prelude.{◌≡◌, Bool, false, cond, List, [], ◌∷◌, ◌++◌, reverse, ℕ, ◌+◌, ◌-◌, length, take, drop, eqb, Option, Some, None}
 use Rattle.std.specs.Borrow.{Bor}
-use Rattle.digits.specs.declared.Digit.{Digit}
-use Rattle.digits.specs.declared.Digit.TheVariants.{Is, Nothing}
 
 -- `_`
 unfoldable pub is_und : ℕ → Bool
@@ -124,11 +122,11 @@ pub record PartAt (run : Slice) (p : Part) (r : Slice) : Type 0 where
   pub place : r.ref_ptr ≡ after (length p.before) run.ref_ptr
 
 -- "first and last digit"
-unfoldable pub first_of : List ℕ → Digit
-first_of [] = Nothing
-first_of (b ∷ t) = Is b
+unfoldable pub first_of : List ℕ → Option ℕ
+first_of [] = None
+first_of (b ∷ t) = Some b
 
-unfoldable pub last_of : List ℕ → Digit
+unfoldable pub last_of : List ℕ → Option ℕ
 last_of t = first_of (reverse t)
 
 -- how many of the digits in front, or behind, are `0`

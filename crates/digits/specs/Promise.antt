@@ -1,8 +1,7 @@
 -- What each public function promises of its answer r, by name, and that the promise leaves nothing open: two answers
 -- that meet it are equal, and two slices stand at the same place and have the same bytes. Assumes nothing.
-use Rattle.std.specs.Prelude.{◌≡◌, List, ℕ, ◌-◌, length}
+use Rattle.std.specs.Prelude.{◌≡◌, List, ℕ, ◌-◌, length, Option}
 use Rattle.laws.specs.Unique.{unique}
-use Rattle.digits.specs.declared.Digit.{Digit}
 use Rattle.digits.specs.Meaning.{digits_of, first_of, last_of, leading_zeros, trailing_zeros}
 use Rattle.digits.specs.Meaning.{Part, new_part, upto_part, from_part, Slice, PartAt}
 
@@ -39,10 +38,10 @@ From run mid r = PartAt run (from_part run.now mid) r
 pub from-unique : (run : Slice) (mid : ℕ) {r s : Slice} → From run mid r → From run mid s → SameSlice r s
 from-unique run mid e f = same-part e f
 
-abbrev pub First : List ℕ → Digit → Type 0
+abbrev pub First : List ℕ → Option ℕ → Type 0
 First run r = r ≡ first_of (digits_of run)
 
-pub first-unique : (run : List ℕ) {r s : Digit} → First run r → First run s → r ≡ s
+pub first-unique : (run : List ℕ) {r s : Option ℕ} → First run r → First run s → r ≡ s
 first-unique run e f = unique e f
 
 abbrev pub AfterFirst : Slice → Slice → Type 0
@@ -51,10 +50,10 @@ AfterFirst run r = From run 1 r
 pub after-first-unique : (run : Slice) {r s : Slice} → AfterFirst run r → AfterFirst run s → SameSlice r s
 after-first-unique run e f = same-part e f
 
-abbrev pub Last : List ℕ → Digit → Type 0
+abbrev pub Last : List ℕ → Option ℕ → Type 0
 Last run r = r ≡ last_of (digits_of run)
 
-pub last-unique : (run : List ℕ) {r s : Digit} → Last run r → Last run s → r ≡ s
+pub last-unique : (run : List ℕ) {r s : Option ℕ} → Last run r → Last run s → r ≡ s
 last-unique run e f = unique e f
 
 abbrev pub BeforeLast : Slice → Slice → Type 0

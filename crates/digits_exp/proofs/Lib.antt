@@ -2,5 +2,4 @@ pub mod Cuts
 pub mod Exps
 pub mod Firsts
 pub mod Moves
-pub mod Places
 pub mod Spans

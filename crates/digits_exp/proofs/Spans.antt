@@ -11,15 +11,19 @@ use Rattle.digits_exp.specs.declared.Span.{Span}
 use Rattle.digits.specs.Meaning.{is_und, is_zero, digits_of, take_while, drop_while, drop_back, trimmed, unds_front}
 use Rattle.digits.specs.Meaning.{unds_back, StartsWithNo, IsView, head_of, tail_of, leading_zeros, trailing_zeros}
 use Rattle.digits.specs.Runs.{while-length, middle, take_head, drop_head, head-length}
-use Rattle.digits.specs.Theorems.{new-whole, trimmed-view, trimmed-digits, head-digits, tail-digits}
+use Rattle.digits.specs.Theorems.{new-whole, trimmed-view, view-trimmed, trimmed-digits, head-digits, tail-digits}
 use Rattle.digits.specs.Theorems.{leading-within, trailing-within, leading-left, trailing-left}
 use Rattle.digits_exp.specs.Meaning.{span_of, IsSpan, Stands}
-use Rattle.digits_exp.specs.Inner.{empty_span}
+use Rattle.digits_exp.specs.Inner.{empty_span, Held}
+
+-- ---- a span that a type holds
+pub is-held : {t : List ℕ} {s : Span} → Held t s → IsSpan t s
+is-held h = record { view = subst IsView h.0 (trimmed-view _); count = h.1 }
+
+pub held-is : {t : List ℕ} {s : Span} → IsSpan t s → Held t s
+held-is h = (view-trimmed _ h.view, h.count)
 
 -- ---- a part of the text
-pub part_none : (t : List ℕ) (a e : ℕ) {r : List ℕ} → e ≤ a → r ≡ take 0 t → r ≡ part t a e
-part_none t a e h q = let z : 0 ≡ e - a = omega arith in q ∙ ap (λ (k : ℕ). take k (drop a t)) z
-
 pub part-within : (t : List ℕ) (a e : ℕ) → length (part t a e) ≤ length t - a
 part-within t a e = simp (length-take, length-drop) (omega arith)
 

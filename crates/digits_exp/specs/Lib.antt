@@ -4,4 +4,5 @@ pub mod Meaning
 pub mod Promise
 pub mod Theorems
 pub mod Value
+pub mod Views
 pub mod Zeros

@@ -1,13 +1,11 @@
 -- What the second layer stands for: document 01, module 1. "A second layer is: some leading zeros, two
 -- views, some trailing zeros." Assumes nothing.
-use Rattle.std.specs.Prelude.{◌≡◌, List, [], ◌∷◌, ◌++◌, ℕ, suc, length, take, drop, ℤ, pos, negsuc}
+use Rattle.std.specs.Prelude.{◌≡◌, List, [], ◌∷◌, ◌++◌, ℕ, suc, length, take, drop, ℤ, pos, negsuc, Option, Some, None}
 use Rattle.laws.specs.Lists.{part}
 use Rattle.laws.specs.Text.{zeros}
 use Rattle.digits_exp.specs.declared.Span.{Span}
 use Rattle.digits_exp.specs.declared.DigitsExp.{DigitsExp}
 use Rattle.digits_exp.specs.declared.IntFrac.{IntFrac}
-use Rattle.digits_exp.specs.declared.FirstDigit.{FirstDigit}
-use Rattle.digits_exp.specs.declared.FirstDigit.TheVariants.{Is, Nothing}
 use Rattle.digits.specs.Meaning.{is_zero, digits_of, drop_while, drop_back, IsView}
 
 -- the digits at a span of the text
@@ -66,10 +64,10 @@ pub record StandsDropped (text : List ℕ) (x : IntFrac) (i f : List ℕ) : Type
   pub frac : StandsExp text x.frac (drop_back is_zero f)
 
 -- "first .. digit": what the first digit and the others stand for, and that the others are such a whole again
-unfoldable pub first_digits : List ℕ → FirstDigit → List ℕ
-first_digits text Nothing = []
-first_digits text (Is b x) = b ∷ digits_exp_of text x
+unfoldable pub first_digits : List ℕ → Option (ℕ × DigitsExp) → List ℕ
+first_digits text None = []
+first_digits text (Some p) = p.0 ∷ digits_exp_of text p.1
 
-unfoldable pub RestIs : List ℕ → FirstDigit → Type 0
-RestIs text Nothing = Unit {0}
-RestIs text (Is b x) = IsExp text x
+unfoldable pub RestIs : List ℕ → Option (ℕ × DigitsExp) → Type 0
+RestIs text None = Unit {0}
+RestIs text (Some p) = IsExp text p.1

@@ -1,14 +1,12 @@
 -- What each public function promises of its answer r, by name, and what the promise leaves open: an answer is settled
 -- by the digits that it stands for, so two answers that meet it stand for the same ones. Assumes nothing.
-use Rattle.std.specs.Prelude.{◌≡◌, List, ℕ, length, take, drop, ℤ}
+use Rattle.std.specs.Prelude.{◌≡◌, List, ℕ, length, take, drop, ℤ, Option}
 use Rattle.laws.specs.Lists.{part}
 use Rattle.digits.specs.Meaning.{digits_of}
 use Rattle.laws.specs.Unique.{unique}
 use Rattle.digits_exp.specs.declared.Span.{Span}
 use Rattle.digits_exp.specs.declared.DigitsExp.{DigitsExp}
 use Rattle.digits_exp.specs.declared.IntFrac.{IntFrac}
-use Rattle.digits_exp.specs.declared.Halves.{Halves}
-use Rattle.digits_exp.specs.declared.FirstDigit.{FirstDigit}
 use Rattle.digits_exp.specs.Meaning.{digits_exp_of, moved_int, moved_frac, StandsExp}
 use Rattle.digits_exp.specs.Meaning.{StandsDropped, first_digits, RestIs}
 
@@ -36,20 +34,20 @@ LenExp text x r = r ≡ length (digits_exp_of text x)
 pub len-exp-unique : (text : List ℕ) (x : DigitsExp) {r s : ℕ} → LenExp text x r → LenExp text x s → r ≡ s
 len-exp-unique text x e f = unique e f
 
-pub record SplitAt (text : List ℕ) (x : DigitsExp) (mid : ℕ) (r : Halves) : Type 0 where
-  pub first : StandsExp text r.first (take mid (digits_exp_of text x))
-  pub last : StandsExp text r.last (drop mid (digits_exp_of text x))
+pub record SplitAt (text : List ℕ) (x : DigitsExp) (mid : ℕ) (r : DigitsExp × DigitsExp) : Type 0 where
+  pub first : StandsExp text r.0 (take mid (digits_exp_of text x))
+  pub last : StandsExp text r.1 (drop mid (digits_exp_of text x))
 
-pub split-at-unique : (text : List ℕ) (x : DigitsExp) (mid : ℕ) {r s : Halves} → SplitAt text x mid r
+pub split-at-unique : (text : List ℕ) (x : DigitsExp) (mid : ℕ) {r s : DigitsExp × DigitsExp} → SplitAt text x mid r
     → SplitAt text x mid s
-    → (digits_exp_of text r.first ≡ digits_exp_of text s.first)
-    × (digits_exp_of text r.last ≡ digits_exp_of text s.last)
+    → (digits_exp_of text r.0 ≡ digits_exp_of text s.0)
+    × (digits_exp_of text r.1 ≡ digits_exp_of text s.1)
 split-at-unique text x mid p q = (unique p.first.same q.first.same, unique p.last.same q.last.same)
 
-pub record SplitFirst (text : List ℕ) (x : DigitsExp) (r : FirstDigit) : Type 0 where
+pub record SplitFirst (text : List ℕ) (x : DigitsExp) (r : Option (ℕ × DigitsExp)) : Type 0 where
   pub same : first_digits text r ≡ digits_exp_of text x
   pub is : RestIs text r
 
-pub split-first-unique : (text : List ℕ) (x : DigitsExp) {r s : FirstDigit} → SplitFirst text x r → SplitFirst text x s
+pub split-first-unique : (text : List ℕ) (x : DigitsExp) {r s : Option (ℕ × DigitsExp)} → SplitFirst text x r → SplitFirst text x s
     → first_digits text r ≡ first_digits text s
 split-first-unique text x p q = unique p.same q.same

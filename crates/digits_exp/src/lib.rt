@@ -11,7 +11,12 @@ mod part;
 mod splitting;
 mod view;
 
-// A view: the text from `from` up to `to`, and how many digits it has.
+use moving::Pair;
+use splitting::Whole;
+use view::View;
+
+// A view: the text from `from` up to `to`, and how many digits it has. Plain, since `view_of` answers for any span:
+// `View` has the text and the invariant.
 #[derive(Clone, Copy)]
 pub struct Span {
     pub from: usize,
@@ -19,19 +24,13 @@ pub struct Span {
     pub digits: usize,
 }
 
+// Plain too, since the promises (`IsExp`, `StandsExp`) speak of a text beside it: `Whole` has both and the invariant.
 #[derive(Clone, Copy)]
 pub struct DigitsExp {
     pub leading_zeros: usize,
     pub part1: Span,
     pub part2: Span,
     pub trailing_zeros: usize,
-}
-
-// Two views, one after the other.
-#[derive(Clone, Copy)]
-pub struct Pair {
-    pub first: Span,
-    pub second: Span,
 }
 
 // The digits of a number: those of its integer and those of its fraction.
@@ -50,26 +49,11 @@ pub struct Counts {
     pub behind: usize,
 }
 
-#[derive(Clone, Copy)]
-pub struct Halves {
-    pub first: DigitsExp,
-    pub last: DigitsExp,
-}
-
-// The first digit with the others behind it, if there is one.
-#[derive(Clone, Copy)]
-pub enum FirstDigit {
-    Is { digit: u8, rest: DigitsExp },
-    Nothing,
-}
-
 // The view at a span, as the part of the text that it is.
 pub fn view_of(text: &[u8], s: Span) -> &[u8]
     ensures { ViewOf text.now s result.now }
 {
-    let from = s.from;
-    let to = s.to;
-    part::between(text, from, to)
+    part::between(text, s.from, s.to)
 }
 
 // The digits of integer and fraction after the exponent has moved the point, without the zeros in front of the one and
@@ -84,13 +68,15 @@ pub fn new_int_frac(
 ) -> IntFrac
     ensures { NewIntFrac text.now int_from int_to frac_from frac_to exp result }
 {
-    let int = view::trim(text, int_from, int_to);
-    let frac = view::trim(text, frac_from, frac_to);
-    let n = moving::places(exp);
+    let a = view::trim(text, int_from, int_to);
+    let b = view::trim(text, frac_from, frac_to);
+    let both = Pair { text, a, b };
+    let n = exp.unsigned_abs() as usize;
     if exp < 0 {
-        return moving::move_left(text, int, frac, n);
+        both.move_left(n)
+    } else {
+        both.move_right(n)
     }
-    moving::move_right(text, int, frac, n)
 }
 
 // How many digits there are. Whoever calls it shows that the count fits.
@@ -98,51 +84,40 @@ pub fn len(text: &[u8], d: DigitsExp) -> usize
     requires { IsExp text.now d × (length (digits_exp_of text.now d) < 2 ^ 64) }
     ensures { LenExp text.now d result }
 {
-    let part1 = d.part1;
-    let part2 = d.part2;
-    d.leading_zeros + part1.digits + part2.digits + d.trailing_zeros
+    d.leading_zeros + d.part1.digits + d.part2.digits + d.trailing_zeros
 }
 
 // The first `mid` digits and the others.
-pub fn split_at(text: &[u8], d: DigitsExp, mid: usize) -> Halves
+pub fn split_at(text: &[u8], d: DigitsExp, mid: usize) -> (DigitsExp, DigitsExp)
     requires { IsExp text.now d }
     ensures { SplitAt text.now d mid result }
 {
-    let first = splitting::upto(text, d, mid);
-    let last = splitting::from(text, d, mid);
-    Halves { first, last }
+    let whole = Whole { text, digits: d };
+    (whole.upto(mid), whole.from(mid))
 }
 
-// The first digit, and the others: a zero in front, a digit of either view, or a zero behind.
-pub fn split_first(text: &[u8], mut d: DigitsExp) -> FirstDigit
+// The first digit and the others, if there is one: a zero in front, a digit of either view, or a zero behind.
+pub fn split_first(text: &[u8], mut d: DigitsExp) -> Option<(u8, DigitsExp)>
     requires { IsExp text.now d }
     ensures { SplitFirst text.now d result }
 {
     if 0 < d.leading_zeros {
         d.leading_zeros -= 1;
-        return FirstDigit::Is {
-            digit: b'0',
-            rest: d,
-        };
+        return Some((b'0', d));
     }
-    let part1 = d.part1;
-    if 0 < part1.digits {
-        let digit = splitting::first_digit(text, part1);
-        d.part1 = view::skip(text, part1, 1);
-        return FirstDigit::Is { digit, rest: d };
+    if 0 < d.part1.digits {
+        let part1 = View { text, at: d.part1 };
+        d.part1 = part1.skip(1);
+        return Some((part1.first_digit(), d));
     }
-    let part2 = d.part2;
-    if 0 < part2.digits {
-        let digit = splitting::first_digit(text, part2);
-        d.part2 = view::skip(text, part2, 1);
-        return FirstDigit::Is { digit, rest: d };
+    if 0 < d.part2.digits {
+        let part2 = View { text, at: d.part2 };
+        d.part2 = part2.skip(1);
+        return Some((part2.first_digit(), d));
     }
     if 0 < d.trailing_zeros {
         d.trailing_zeros -= 1;
-        return FirstDigit::Is {
-            digit: b'0',
-            rest: d,
-        };
+        return Some((b'0', d));
     }
-    FirstDigit::Nothing
+    None
 }

@@ -1,94 +1,32 @@
 // An exponent moves digits between integer and fraction; then the zeros at the outer ends are dropped.
-ghost use Rattle.std.specs.Prelude.{◌≡◌, cond, ◌++◌, eqb, nat_abs};
+ghost use Rattle.std.specs.Prelude.{◌≡◌, cond, ◌++◌, eqb};
 ghost use Rattle.laws.specs.Text.{zeros};
 ghost use Rattle.digits.specs.Meaning.{is_zero, drop_while, drop_back};
-ghost use Rattle.digits_exp.specs.Meaning.{span_of, IsSpan, StandsExp, right_int, right_frac, left_int, left_frac};
-ghost use Rattle.digits_exp.specs.Inner.{empty_exp, StandsPair, Moved};
+ghost use Rattle.digits_exp.specs.Meaning.{StandsExp, right_int, right_frac, left_int, left_frac};
+ghost use Rattle.digits_exp.specs.Inner.{empty_exp, Held, StandsPair, Moved};
 
-use super::{DigitsExp, IntFrac, Pair, Span, view};
+use super::view::{self, View};
+use super::{DigitsExp, IntFrac, Span};
 
-// Two views without the zeros in front: where the first is all zeros, the second
-// takes its place (S's `new2`, its first half).
-fn strip_front(text: &[u8], a: Span, b: Span) -> Pair
-    requires { IsSpan text.now a × IsSpan text.now b }
-    ensures { StandsPair text.now result
-        (drop_while is_zero (span_of text.now a ++ span_of text.now b)) }
-{
-    let first = view::without_leading_zeros(text, a);
-    if first.digits == 0 {
-        let second = view::without_leading_zeros(text, b);
-        return Pair {
-            first: second,
-            second: view::empty(),
-        };
-    }
-    Pair { first, second: b }
-}
-
-// The same from behind (S's `new2`, its second half).
-fn strip_back(text: &[u8], a: Span, b: Span) -> Pair
-    requires { IsSpan text.now a × IsSpan text.now b }
-    ensures { StandsPair text.now result
-        (drop_back is_zero (span_of text.now a ++ span_of text.now b)) }
-{
-    let second = view::without_trailing_zeros(text, b);
-    if second.digits == 0 {
-        let first = view::without_trailing_zeros(text, a);
-        return Pair {
-            first,
-            second: view::empty(),
-        };
-    }
-    Pair { first: a, second }
-}
-
-// Two views and `extra` zeros behind, without the zeros in front: the digits of an integer.
-fn new_int(text: &[u8], a: Span, b: Span, extra: usize) -> DigitsExp
-    requires { IsSpan text.now a × IsSpan text.now b }
-    ensures { StandsExp text.now result
-        (drop_while is_zero ((span_of text.now a ++ span_of text.now b) ++ zeros extra)) }
-{
-    let s = strip_front(text, a, b);
-    let part1 = s.first;
-    let part2 = s.second;
-    let trailing_zeros = if_digits(part1, part2, extra);
-    DigitsExp {
-        leading_zeros: 0,
-        part1,
-        part2,
-        trailing_zeros,
-    }
-}
-
-// `extra` zeros in front and two views, without the zeros behind: the digits of a fraction.
-fn new_frac(text: &[u8], extra: usize, a: Span, b: Span) -> DigitsExp
-    requires { IsSpan text.now a × IsSpan text.now b }
-    ensures { StandsExp text.now result
-        (drop_back is_zero (zeros extra ++ (span_of text.now a ++ span_of text.now b))) }
-{
-    let s = strip_back(text, a, b);
-    let part1 = s.first;
-    let part2 = s.second;
-    let leading_zeros = if_digits(part1, part2, extra);
-    DigitsExp {
-        leading_zeros,
-        part1,
-        part2,
-        trailing_zeros: 0,
-    }
+// Two views of a text, one after the other: where an exponent moves digits, of the integer and of the fraction.
+#[derive(Clone, Copy)]
+pub(crate) struct Pair<'a> {
+    pub(crate) text: &'a [u8],
+    pub(crate) a: Span,
+    pub(crate) b: Span,
+    ghost a_held: { Held text.now a },
+    ghost b_held: { Held text.now b },
 }
 
 // `extra`, or 0 where neither view has a digit: zeros alone are no digits of an integer or a fraction.
 fn if_digits(a: Span, b: Span, extra: usize) -> usize
     ensures { result ≡ cond (eqb a.digits 0) (cond (eqb b.digits 0) 0 extra) extra }
 {
-    if a.digits == 0 {
-        if b.digits == 0 {
-            return 0;
-        }
-        return extra;
+    if a.digits == 0 && b.digits == 0 {
+        0
+    } else {
+        extra
     }
-    extra
 }
 
 // The number with no digits at all.
@@ -103,54 +41,97 @@ fn nothing() -> DigitsExp
     }
 }
 
-// How many places an exponent moves the point.
-pub(crate) fn places(exp: i32) -> usize
-    ensures { result ≡ nat_abs exp }
-{
-    if exp < 0 {
-        return (0 - exp as i64) as usize;
-    }
-    exp as usize
-}
+impl<'a> Pair<'a> {
+    ghost use Rattle.digits_exp.specs.Views.{pair_digits};
 
-// The point n places to the right: the first n digits of the fraction go to the integer,
-// with zeros behind them where there are fewer.
-pub(crate) fn move_right(text: &[u8], int: Span, frac: Span, n: usize) -> IntFrac
-    requires { IsSpan text.now int × IsSpan text.now frac }
-    ensures { Moved text.now result (right_int n) (right_frac n) int frac }
-{
-    let digits = frac.digits;
-    if digits <= n {
-        return IntFrac {
-            int: new_int(text, int, frac, n - digits),
-            frac: nothing(),
-        };
+    // Both without the zeros in front: where the first is all zeros, the second takes its place (S's `new2`, its first
+    // half).
+    fn strip_front(self) -> (Span, Span)
+        ensures { StandsPair self.entry.text.now result (drop_while is_zero (pair_digits self.entry)) }
+    {
+        let Pair { text, a, b } = self;
+        let left = View { text, at: a }.without_leading_zeros();
+        if left.digits == 0 {
+            return (View { text, at: b }.without_leading_zeros(), view::empty());
+        }
+        (left, b)
     }
-    let moved = view::keep(text, frac, n);
-    let left = view::skip(text, frac, n);
-    IntFrac {
-        int: new_int(text, int, moved, 0),
-        frac: new_frac(text, 0, view::empty(), left),
-    }
-}
 
-// The point n places to the left: the last n digits of the integer go to the fraction, with
-// zeros in front of them where there are fewer.
-pub(crate) fn move_left(text: &[u8], int: Span, frac: Span, n: usize) -> IntFrac
-    requires { IsSpan text.now int × IsSpan text.now frac }
-    ensures { Moved text.now result (left_int n) (left_frac n) int frac }
-{
-    let digits = int.digits;
-    if digits <= n {
-        return IntFrac {
-            int: nothing(),
-            frac: new_frac(text, n - digits, int, frac),
-        };
+    // The same from behind (S's `new2`, its second half).
+    fn strip_back(self) -> (Span, Span)
+        ensures { StandsPair self.entry.text.now result (drop_back is_zero (pair_digits self.entry)) }
+    {
+        let Pair { text, a, b } = self;
+        let left = View { text, at: b }.without_trailing_zeros();
+        if left.digits == 0 {
+            return (View { text, at: a }.without_trailing_zeros(), view::empty());
+        }
+        (a, left)
     }
-    let left = view::keep(text, int, digits - n);
-    let moved = view::skip(text, int, digits - n);
-    IntFrac {
-        int: new_int(text, left, view::empty(), 0),
-        frac: new_frac(text, 0, moved, frac),
+
+    // Both and `extra` zeros behind, without the zeros in front: the digits of an integer.
+    fn int_with(self, extra: usize) -> DigitsExp
+        ensures { StandsExp self.entry.text.now result (drop_while is_zero (pair_digits self.entry ++ zeros extra)) }
+    {
+        let (part1, part2) = self.strip_front();
+        DigitsExp {
+            leading_zeros: 0,
+            part1,
+            part2,
+            trailing_zeros: if_digits(part1, part2, extra),
+        }
+    }
+
+    // `extra` zeros in front and both, without the zeros behind: the digits of a fraction.
+    fn frac_with(self, extra: usize) -> DigitsExp
+        ensures { StandsExp self.entry.text.now result (drop_back is_zero (zeros extra ++ pair_digits self.entry)) }
+    {
+        let (part1, part2) = self.strip_back();
+        DigitsExp {
+            leading_zeros: if_digits(part1, part2, extra),
+            part1,
+            part2,
+            trailing_zeros: 0,
+        }
+    }
+
+    // The point n places to the right: the first n digits of the fraction go to the integer, with zeros behind them
+    // where there are fewer.
+    pub(crate) fn move_right(self, n: usize) -> IntFrac
+        ensures { Moved self.entry.text.now result (right_int n) (right_frac n) self.entry.a self.entry.b }
+    {
+        let Pair { text, a, b } = self;
+        if b.digits <= n {
+            return IntFrac {
+                int: self.int_with(n - b.digits),
+                frac: nothing(),
+            };
+        }
+        let frac = View { text, at: b };
+        let moved = frac.keep(n);
+        let int = Pair { text, a, b: moved }.int_with(0);
+        let (a, b) = (view::empty(), frac.skip(n));
+        let frac = Pair { text, a, b }.frac_with(0);
+        IntFrac { int, frac }
+    }
+
+    // The point n places to the left: the last n digits of the integer go to the fraction, with zeros in front of them
+    // where there are fewer.
+    pub(crate) fn move_left(self, n: usize) -> IntFrac
+        ensures { Moved self.entry.text.now result (left_int n) (left_frac n) self.entry.a self.entry.b }
+    {
+        let Pair { text, a, b } = self;
+        if a.digits <= n {
+            return IntFrac {
+                int: nothing(),
+                frac: self.frac_with(n - a.digits),
+            };
+        }
+        let int = View { text, at: a };
+        let moved = int.skip(a.digits - n);
+        let frac = Pair { text, a: moved, b }.frac_with(0);
+        let (a, b) = (int.keep(a.digits - n), view::empty());
+        let int = Pair { text, a, b }.int_with(0);
+        IntFrac { int, frac }
     }
 }

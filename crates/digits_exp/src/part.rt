@@ -6,8 +6,5 @@ ghost use Rattle.laws.specs.Lists.{part};
 pub(crate) fn between(run: &[u8], from: usize, to: usize) -> &[u8]
     ensures { result.now ≡ part run.now from to }
 {
-    if to <= from {
-        return digits::part::head(run, 0);
-    }
-    digits::part::head(digits::part::rest(run, from), to - from)
+    digits::part::head(digits::part::rest(run, from), to.saturating_sub(from))
 }

@@ -2,7 +2,7 @@
 use Rattle.std.specs.Prelude.{cond, ℕ, eqb, ℤ}
 use Rattle.format.specs.Meaning.{with_sign, exact}
 use Rattle.exact.specs.declared.Number.{Number}
-use Rattle.exact.specs.declared.Exact.{Exact}
+use Rattle.format.specs.declared.Exact.{Exact}
 
 abbrev pub number_of : Number → ℤ
 number_of x = with_sign x.neg x.size

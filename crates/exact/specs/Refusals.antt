@@ -2,7 +2,11 @@
 use Rattle.std.specs.Prelude.{◌≡◌, refl, Bool, true, false, cond, ℕ, ◌≤◌, ◌<◌, eqb}
 use Rattle.std.proofs.Common.{sym, ◌∙◌, arith}
 use borrow.Author.Tests.{ne_eqb, eqb-true, eqb-false}
-use Rattle.format.specs.Meaning.{is_width, fault_of}
+use Rattle.format.specs.Meaning.{fault_of}
+use Rattle.format.specs.Width.{is_width}
+use Rattle.format.specs.declared.refusal.Refusal.{Refusal}
+use Rattle.format.specs.Refusal.{named}
+use Rattle.format.specs.Checked.{Opens, Refuses}
 use Rattle.format.specs.Fault.{fault-free, width-bounds}
 use Rattle.exact.specs.Meaning.{or_else}
 
@@ -47,3 +51,21 @@ met w f m e z =
 -- the same where the format is all that is asked
 pub checked : (w f : ℕ) {r : ℕ} → r ≡ fault_of w f → r ≡ 0 → Met w f 0
 checked w f e z = met w f 0 (or-none-first (fault_of w f) e z) z
+
+-- a check that goes on after another's: what the first refuses is refused, then what the second does; and both let the format through
+module _ {n : ℕ} (m : ℕ) where
+  pub refuses-first : {e : Refusal} → Refuses n e → Refuses (or_else n m) e
+  unfolding or_else
+  refuses-first r = rw (ne_eqb n 0 r.fault) r
+
+  pub refuses-second : {e : Refusal} → n ≡ 0 → (m ≡ 0 → ⊥) → e ≡ named m → Refuses (or_else n m) e
+  unfolding or_else
+  refuses-second z h q = rw z (record { fault = h; named_is = q })
+
+  pub opens-both : {w f v g : ℕ} → Opens n w f v g → m ≡ 0 → Opens (or_else n m) w f v g
+  unfolding or_else
+  opens-both o z = record { free = rw o.free z; width_is = o.width_is; frac_is = o.frac_is }
+
+-- the fraction bits that a format was opened with are at most a word's
+pub frac-fits : {n w f v g : ℕ} → Opens n w f v g → is_width v ≡ true → g ≤ v → f ≤ 64
+frac-fits o h l = omega (arith, (width-bounds _ h).1, o.frac_is, l)

@@ -15,6 +15,8 @@ use Rattle.laws.specs.Floor.{floor}
 use Rattle.laws.specs.Signed.{signed as kit}
 use Rattle.format.specs.Meaning.{with_sign}
 use Rattle.format.specs.Place.{sign-out}
+use Rattle.exact.specs.declared.Number.{Number}
+use Rattle.exact.specs.Meaning.{number_of}
 
 -- an operation on what the parts stand for
 pub via₂ : (op : ℤ → ℤ → ℤ) {x y z a b : ℤ} → x ≡ a → y ≡ b → z ≡ op x y → z ≡ op a b
@@ -164,3 +166,7 @@ one_word n a = ap (with_sign n) (omega arith)
 
 pub some_size : (n : Bool) (a : ℕ) → 0 < nat_abs (with_sign n a) → 0 < a
 some_size n a h = omega (arith, abs-sign n a)
+
+-- the same of what the code has of a number
+pub size-some : (x : Number) {z : ℤ} → number_of x ≡ z → 0 < nat_abs z → 0 < x.size
+size-some x e h = some_size x.neg x.size (rw e h)

@@ -10,7 +10,7 @@ use Rattle.wide.specs.declared.Wide.{Wide}
 use Rattle.wide.specs.Meaning.{Words}
 use Rattle.wide.specs.Theorems.{same-value}
 use Rattle.exact.specs.declared.Number.{Number}
-use Rattle.exact.specs.declared.Exact.{Exact}
+use Rattle.format.specs.declared.Exact.{Exact}
 use Rattle.exact.specs.Meaning.{number_of, exact_of}
 use Rattle.exact.specs.Signs.{abs-sign}
 

@@ -8,7 +8,11 @@ ghost use Rattle.format.specs.Meaning.{exact};
 ghost use Rattle.wide.specs.Meaning.{value_of};
 ghost use Rattle.exact.specs.Meaning.{number_of, exact_of};
 
+pub use format::Exact;
+use format::Raw;
 use wide::Wide;
+
+pub mod operand;
 
 // An operand.
 #[derive(Clone, Copy)]
@@ -17,29 +21,13 @@ pub struct Number {
     pub size: u64,
 }
 
-// A result.
-#[derive(Clone, Copy)]
-pub struct Exact {
-    pub neg: bool,
-    pub high: u64,
-    pub low: u64,
-}
-
-pub fn of_signed(x: i64) -> Number
-    ensures { number_of result ≡ x }
+// A raw's number, apart.
+pub fn of<R: Raw>(x: R) -> Number
+    ensures { number_of result ≡ R.kind.number_of x }
 {
     Number {
-        neg: x < 0,
-        size: format::signed::magnitude(x),
-    }
-}
-
-pub fn of_unsigned(x: u64) -> Number
-    ensures { number_of result ≡ pos x }
-{
-    Number {
-        neg: false,
-        size: x,
+        neg: x.is_below(),
+        size: x.magnitude(),
     }
 }
 
@@ -102,28 +90,28 @@ pub fn sum(x: Number, y: Number) -> Exact
 const ADDS_UP: u64 = 0x4000_0000_0000_0000;
 
 // a + b, with no branch on a sign where a signed word holds it: every sum of the narrow widths.
-pub fn signed_sum(a: i64, b: i64) -> Exact
+pub(crate) fn signed_sum(a: i64, b: i64) -> Exact
     ensures { exact_of result ≡ a +ℤ b }
 {
-    let x = of_signed(a);
-    let y = of_signed(b);
+    let x = of(a);
+    let y = of(b);
     if x.size < ADDS_UP {
         if y.size < ADDS_UP {
-            return of_number(of_signed(a + b));
+            return of_number(of(a + b));
         }
     }
     sum(x, y)
 }
 
 // a - b, the same way.
-pub fn signed_difference(a: i64, b: i64) -> Exact
+pub(crate) fn signed_difference(a: i64, b: i64) -> Exact
     ensures { exact_of result ≡ a +ℤ neg_ℤ b }
 {
-    let x = of_signed(a);
-    let y = of_signed(b);
+    let x = of(a);
+    let y = of(b);
     if x.size < ADDS_UP {
         if y.size < ADDS_UP {
-            return of_number(of_signed(a - b));
+            return of_number(of(a - b));
         }
     }
     sum(x, negated(y))
@@ -142,15 +130,15 @@ const MULTIPLIES: u64 = 0x8000_0000;
 
 // a * b / 2^frac, rounded toward minus infinity: one multiplication and one shift for numbers that fit 32
 // bits, so for every product of the narrow widths.
-pub fn signed_product(a: i64, b: i64, frac: u32) -> Exact
+pub(crate) fn signed_product(a: i64, b: i64, frac: u32) -> Exact
     ensures { exact_of result ≡ floor_of (a *ℤ b) (2 ^ frac) }
 {
-    let x = of_signed(a);
-    let y = of_signed(b);
+    let x = of(a);
+    let y = of(b);
     if x.size <= MULTIPLIES {
         if y.size <= MULTIPLIES {
             if frac < 64 {
-                return of_number(of_signed((a * b) >> frac));
+                return of_number(of((a * b) >> frac));
             }
         }
     }

@@ -3,8 +3,8 @@
 use Rattle.std.specs.Prelude.{◌≡◌, refl, List, [], ◌∷◌, ◌++◌, map, ℕ, ◌+◌, ◌≤◌, ◌<◌, ℤ, pos, length, take, get_or, set}
 use Rattle.std.proofs.lemmas.List.{map-append}
 use Rattle.std.proofs.Common.{add-one, arith, length-set, take-suc, take-suc-set, take_all}
-use Rattle.filter.specs.Meaning.{most_taps, next, output_of, clip_of, bit_of, history_after, outputs_of, clips_of, clipped}
-use Rattle.filter.specs.Run.{after_one, outputs-one, clips-one, clipped-one, bit_le, next-length}
+use Rattle.filter.specs.Meaning.{next, output_of, clip_of, bit_of, history_after, outputs_of, clips_of, clipped}
+use Rattle.filter.specs.Run.{after_one, outputs-one, clips-one, clipped-one, bit_le}
 
 -- the block is through
 pub record Through (taps history samples final outputs : List ℤ) (marks : List ℕ) (count : ℕ) : Type 0 where
@@ -16,20 +16,17 @@ pub record Through (taps history samples final outputs : List ℤ) (marks : List
 -- the first i samples are through
 pub record SoFar (taps history samples : List ℤ) (i : ℕ) (line outputs : List ℤ) (marks : List ℕ) (count : ℕ) : Type 0 where
   pub place : i ≤ length samples
-  pub room : length line ≡ most_taps
   pub outputs-long : length outputs ≡ length samples
   pub marks-long : length marks ≡ length samples
   pub few : count ≤ i
   pub through : Through taps history (take i samples) line (take i outputs) (take i marks) count
 
-pub start : (taps history samples outputs : List ℤ) (marks : List ℕ) → length history ≡ most_taps → length outputs ≡ length samples
-    → length marks ≡ length samples
+pub start : (taps history samples outputs : List ℤ) (marks : List ℕ) → length outputs ≡ length samples → length marks ≡ length samples
     → SoFar taps history samples 0 history outputs marks 0
 unfolding history_after outputs_of clips_of clipped
-start taps history samples outputs marks e f g =
+start taps history samples outputs marks f g =
     record {
       place = omega arith;
-      room = e;
       outputs-long = f;
       marks-long = g;
       few = omega arith;
@@ -49,7 +46,6 @@ module _ (taps history samples : List ℤ) (i : ℕ) (line outputs : List ℤ) (
       let now : line' ≡ next (history_after history past) x = rw t.final-is at l in
       record {
         place = omega arith;
-        room = rw l (next-length line x s.room);
         outputs-long = simp length-set s.outputs-long;
         marks-long = simp length-set s.marks-long;
         few = omega (arith, bit_le (clip_of taps line'));

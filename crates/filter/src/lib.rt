@@ -8,8 +8,11 @@ mod block;
 pub mod fault;
 mod line;
 pub mod sum;
+pub mod taps;
 
 use format::{SignedAnswer, UnsignedAnswer};
+use line::Window;
+use taps::Taps;
 
 // The most taps, and the samples that the state holds.
 pub const TAPS: usize = 64;
@@ -49,10 +52,10 @@ pub fn step(taps: &[i16], state: State, x: i16) -> Stepped
     }
     let mut samples = state.samples;
     line::push(&mut samples, x);
-    let held = sum::output(taps, &samples[..]);
+    let held = sum::output(&Taps::new(taps), &samples[..]);
     Stepped {
         answer: SignedAnswer::Done {
-            raw: sum::wide(held.value),
+            raw: i64::from(held.value),
             flag: held.clipped,
         },
         state: State { samples },
@@ -75,10 +78,9 @@ pub fn run(
     if fault != 0 {
         return UnsignedAnswer::Refused(fault);
     }
-    let given = *state;
-    let mut line = line::whole(given);
-    let count = block::through(taps, &mut line, samples, outputs, clips);
-    *state = line;
+    let mut line = Window::new(*state);
+    let count = block::through(&Taps::new(taps), &mut line, samples, outputs, clips);
+    state.copy_from_slice(line.line());
     UnsignedAnswer::Done {
         raw: count,
         flag: false,

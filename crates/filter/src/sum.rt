@@ -3,7 +3,9 @@ ghost use Rattle.std.specs.Prelude.{◌≡◌, ◌*◌, ◌^◌, ◌≤◌, nat_
 ghost use Rattle.filter.specs.Meaning.{most_taps, sum_of, rounded, level_of};
 ghost use Rattle.filter.specs.Sum.{held_of};
 
-// An output, and whether holding changed it.
+use super::taps::Taps;
+
+// An output, and whether holding changed it: no Option, since a clipped output has its value too.
 #[derive(Clone, Copy)]
 pub(crate) struct Held {
     pub value: i16,
@@ -14,10 +16,11 @@ pub(crate) struct Held {
 fn product(tap: i16, sample: i16) -> i64
     ensures { result ≡ tap *ℤ sample }
 {
-    ((tap as i32) * (sample as i32)) as i64
+    i64::from(i32::from(tap) * i32::from(sample))
 }
 
-// The exact sum of the products. A plain loop, so that the compiler can take several products at a time.
+// The exact sum of the products.
+// By the tap's place: a `zip` of taps and line was 5 percent slower, even where the line was cut to the taps' length.
 fn dot(taps: &[i16], line: &[i16]) -> i64
     requires few_taps { length taps.now ≤ most_taps }
     requires enough_samples { length taps.now ≤ length line.now }
@@ -25,12 +28,8 @@ fn dot(taps: &[i16], line: &[i16]) -> i64
     ensures bound { nat_abs result ≤ most_taps * 2 ^ 30 }
 {
     let mut sum: i64 = 0;
-    let mut i = 0;
-    while i < taps.len() {
-        let t = taps[i];
-        let s = line[i];
-        sum += product(t, s);
-        i += 1;
+    for (i, tap) in taps.iter().enumerate() {
+        sum += product(*tap, line[i]);
     }
     sum
 }
@@ -58,36 +57,17 @@ pub fn level(taps: &[i16], line: &[i16]) -> i64
 fn hold(y: i64) -> Held
     ensures { result ≡ held_of y }
 {
-    if y < -32768 {
-        return Held {
-            value: -32768,
-            clipped: true,
-        };
-    }
-    if 32767 < y {
-        return Held {
-            value: 32767,
-            clipped: true,
-        };
-    }
+    let value = y.clamp(-32768, 32767) as i16;
     Held {
-        value: y as i16,
-        clipped: false,
+        value,
+        clipped: i64::from(value) != y,
     }
 }
 
 // The output for a line of samples, with its clip flag.
-pub(crate) fn output(taps: &[i16], line: &[i16]) -> Held
-    requires few_taps { length taps.now ≤ most_taps }
-    requires enough_samples { length taps.now ≤ length line.now }
+pub(crate) fn output(taps: &Taps<'_>, line: &[i16]) -> Held
+    requires { length line.now ≡ most_taps }
     ensures { result ≡ held_of (level_of taps.now line.now) }
 {
-    hold(level(taps, line))
-}
-
-// A sample in the width of an answer's value.
-pub(crate) fn wide(x: i16) -> i64
-    ensures { result ≡ x }
-{
-    x as i64
+    hold(level(taps.raws(), line))
 }

@@ -1,3 +1,2 @@
--- What the proofs of more than one function use, those of `to_float` too.
-pub mod Masks
-pub mod Scaling
+-- The steps of `rounding`, over numbers.
+mod Scaling

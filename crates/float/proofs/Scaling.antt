@@ -1,12 +1,11 @@
 -- A word times 2^up over 2^down, rounded, as the code finds it: the powers are cancelled, and past two words only whole 2^64 are left. Assumes nothing.
-use mathlib.Core.Path.{◌≡◌, sym, ap, ap₂, ◌∙◌}
+use mathlib.Core.Path.{◌≡◌, sym, ap, ◌∙◌}
 use Prim.Native.Nat.{ℕ, ◌+◌, ◌-◌, ◌*◌, ◌/◌, ◌%◌, ◌^◌, ◌≤◌, ◌<◌}
-use native.Mathlib.Nat.{eq_of_mul-eq-mul_right, le_of_lt}
+use native.Mathlib.Nat.{mod-lt, div-lt_iff_lt-mul, eq_of_mul-eq-mul_right, le_of_lt}
 use native.Mathlib.Omega.{arith}
 use lib.Bits.{bit_and}
 use lib.Pow.{pow_pos, pow_mono, shl_exact}
-use borrow.Author.Tests.{lt-ltb, le-ltb}
-use Rattle.laws.specs.Nearest.{nearest_even, nearest_by, nearest-scale, nearest-none}
+use Rattle.laws.specs.Nearest.{nearest_even, nearest-scale, nearest-none}
 use Rattle.laws.specs.Powers.{power-sub}
 use Rattle.wide.specs.declared.Wide.{Wide}
 use Rattle.wide.specs.Meaning.{value_of}
@@ -14,24 +13,12 @@ use Rattle.format.specs.Place.{masked}
 use Rattle.float.specs.Folds.{Folds}
 use Rattle.float.specs.Scaled.{scaled-few}
 
--- ---- by the remainder: one law for each way out
-module _ (q r d : ℕ) where
-  pub less-than-half : r * 2 < d → q ≡ nearest_by q r d
-  unfolding nearest_by
-  less-than-half h = rw (lt-ltb (r * 2) d h)
+-- ---- what a shift and a mask leave of a word; and less than half of 2^64
+pub half_left : (m k : ℕ) → m < 2 ^ 64 → 0 < k → m / 2 ^ k < 2 ^ 63
+half_left m k h l = (div-lt_iff_lt-mul (pow_pos k)).1 (omega (arith, pow_mono {i = 1} {j = k} l))
 
-  pub more-than-half : d ≤ r * 2 → d < r * 2 → q + 1 ≡ nearest_by q r d
-  unfolding nearest_by
-  more-than-half h g = rw (le-ltb (r * 2) d h, lt-ltb d (r * 2) g)
-
-  pub one-half : d ≤ r * 2 → r * 2 ≤ d → q + q % 2 ≡ nearest_by q r d
-  unfolding nearest_by
-  one-half h g = rw (le-ltb (r * 2) d h, le-ltb d (r * 2) g)
-
--- ---- m / 2^k with a mask and a power; and less than half of 2^64
-pub by_mask : (m k : ℕ) {o p r : ℕ} → o ≡ 2 ^ k - 1 → p ≡ 2 ^ k → r ≡ nearest_by (m / 2 ^ k) (bit_and m o) p → r ≡ nearest_even m (2 ^ k)
-unfolding nearest_even
-by_mask m k e f g = g ∙ ap₂ (nearest_by (m / 2 ^ k)) (masked m k _ e) f
+pub masked_below : (m k : ℕ) {o : ℕ} → k < 64 → o ≡ 2 ^ k - 1 → bit_and m o < 2 ^ 63
+masked_below m k h e = omega (arith, masked m k _ e, mod-lt m (pow_pos k), pow_mono {i = k} {j = 63} (omega arith))
 
 pub nothing_left : (m k : ℕ) → m < 2 ^ 63 → 64 ≤ k → 0 ≡ nearest_even m (2 ^ k)
 nothing_left m k h l = sym (nearest-none m (2 ^ k) (omega (arith, pow_mono {i = 64} {j = k} l)))

@@ -1,4 +1,5 @@
 pub mod Folds
+pub mod Formats
 pub mod Kit
 pub mod Meaning
 pub mod Parts

@@ -17,6 +17,11 @@ pub record Small (p w : ℕ) : Type 0 where
   pub field-some : 1 ≤ w
   pub field-most : w ≤ 11
 
+-- those of them in which every n / 2^F is 0 or normal, for n below 2^64 and F at most 64
+pub record Roomy (p w : ℕ) : Type 0 where
+  pub small : Small p w
+  pub roomy : 8 ≤ w
+
 -- ---- the magnitude
 unfoldable pub magnitude_of : Binary → ℕ → ℕ → ℕ
 magnitude_of b f x = cond (eqb (biased b x) (2 ^ b.field - 1)) (2 ^ 64) (raw_of_steps b f (steps b (biased b x) (trailing b x)))

@@ -1,15 +1,15 @@
 // Powers of two and masks of one word.
 ghost use Rattle.std.specs.Prelude.{◌≡◌, ◌-◌, ◌^◌, ◌≤◌};
 
-pub fn power(k: u32) -> u64
+pub(crate) fn power(k: u32) -> u64
     requires { k ≤ 63 }
     ensures { result ≡ 2 ^ k }
 {
-    wide::shl_word(1, k)
+    1 << k
 }
 
 // The k low bits set.
-pub fn ones(k: u32) -> u64
+pub(crate) fn ones(k: u32) -> u64
     requires { k ≤ 63 }
     ensures { result ≡ 2 ^ k - 1 }
 {

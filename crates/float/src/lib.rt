@@ -3,14 +3,6 @@
 // (IEEE 754, 3.4). Inner functions of `from_float` and `to_float`.
 #![tactic(auto)]
 
-pub mod bits;
+mod bits;
 pub mod pattern;
 pub mod rounding;
-
-pub const PRECISION_32: u32 = 24;
-
-pub const FIELD_32: u32 = 8;
-
-pub const PRECISION_64: u32 = 53;
-
-pub const FIELD_64: u32 = 11;

@@ -1,82 +1,107 @@
 // What a pattern says: its sign, its biased exponent E and its trailing significand T
 // are parts of one number, by shifts and masks.
-ghost use Rattle.std.specs.Prelude.{◌≡◌, ◌-◌, ◌^◌, ◌≤◌, ◌<◌};
-ghost use Rattle.float.specs.Meaning.{negative as negativeOf, biased as biasedOf};
-ghost use Rattle.float.specs.Meaning.{trailing as trailingOf, least as leastOf};
-ghost use Rattle.float.specs.Parts.{binary, Small, Significand, magnitude_of};
-ghost use Rattle.float.specs.Folds.{Folds};
+ghost use Rattle.float.specs.Parts.{Roomy};
 
 use crate::{bits, rounding};
+use format::Format;
 use wide::Wide;
 
-pub fn negative(pattern: u64, precision: u32, field: u32) -> bool
-    requires { Small precision field }
-    ensures { result ≡ negativeOf (binary precision field) pattern }
-{
-    bits::power(field + (precision - 1)) <= pattern
+// A format of patterns that one word holds: the precision p and the width of the exponent field.
+#[derive(Clone, Copy)]
+pub struct Binary {
+    pub precision: u32,
+    pub field: u32,
+    pub ghost room: { Roomy precision field },
 }
 
-pub fn biased(pattern: u64, precision: u32, field: u32) -> u32
-    requires { Small precision field }
-    ensures { result ≡ biasedOf (binary precision field) pattern }
-{
-    ((pattern >> (precision - 1)) & bits::ones(field)) as u32
-}
+impl Binary {
+    ghost use Rattle.std.specs.Prelude.{◌≡◌, ◌+◌, ◌-◌, ◌^◌, ◌≤◌, ◌<◌};
+    ghost use Rattle.float.specs.Meaning.{negative as negativeOf, biased as biasedOf, bias as biasOf};
+    ghost use Rattle.float.specs.Meaning.{trailing as trailingOf, least as leastOf};
+    ghost use Rattle.float.specs.Parts.{Significand, magnitude_of};
+    ghost use Rattle.float.specs.Formats.{binary_of};
+    ghost use Rattle.float.specs.Folds.{Folds};
 
-pub fn trailing(pattern: u64, precision: u32, field: u32) -> u64
-    requires { Small precision field }
-    ensures { result ≡ trailingOf (binary precision field) pattern }
-{
-    pattern & bits::ones(precision - 1)
-}
+    pub const F32: Self = Binary {
+        precision: 24,
+        field: 8,
+    };
 
-// E of an infinity or a NaN.
-pub fn last(field: u32) -> u32
-    requires { field ≤ 11 }
-    ensures { result ≡ 2 ^ field - 1 }
-{
-    bits::ones(field) as u32
-}
+    pub const F64: Self = Binary {
+        precision: 53,
+        field: 11,
+    };
 
-// The magnitude x 2^frac, rounded: an infinity counts as 2^64, which is past every format.
-pub fn magnitude(pattern: u64, precision: u32, field: u32, frac: u32) -> Wide
-    requires { Small precision field × (frac ≤ 64) }
-    ensures { Folds (magnitude_of (binary precision field) frac pattern) result }
-{
-    let e = biased(pattern, precision, field);
-    if e == last(field) {
-        return Wide { high: 1, low: 0 };
+    // The sign's bit.
+    pub fn sign(self) -> u64
+        ensures { result ≡ 2 ^ (self.field + (self.precision - 1)) }
+    {
+        bits::power(self.field + (self.precision - 1))
     }
-    let m = significand(e, trailing(pattern, precision, field), precision);
-    rounding::scaled(m, frac + place(e), least(precision, field))
-}
 
-// T with the leading one before it, which a subnormal number has not.
-fn significand(e: u32, t: u64, precision: u32) -> u64
-    requires { (2 ≤ precision) × (precision ≤ 53) × (t < 2 ^ (precision - 1)) }
-    ensures { Significand precision e t result }
-{
-    if e == 0 {
-        return t;
+    pub fn negative(self, pattern: u64) -> bool
+        ensures { result ≡ negativeOf (binary_of self) pattern }
+    {
+        self.sign() <= pattern
     }
-    bits::power(precision - 1) + t
-}
 
-// How many places the significand stands above the least positive number. A subnormal
-// number stands where the first normal ones do.
-fn place(e: u32) -> u32
-    ensures { result ≡ e - 1 }
-{
-    if 0 < e {
-        return e - 1;
+    #[tactic(auto, using(format::specs::Place::masked))]
+    pub fn biased(self, pattern: u64) -> u32
+        ensures { result ≡ biasedOf (binary_of self) pattern }
+    {
+        // `as`: after the mask there is nothing that a `try_from` could refuse
+        ((pattern >> (self.precision - 1)) & bits::ones(self.field)) as u32
     }
-    0
-}
 
-// The least positive number is 2^-least.
-pub fn least(precision: u32, field: u32) -> u32
-    requires { Small precision field }
-    ensures { result ≡ leastOf (binary precision field) }
-{
-    last(field - 1) + precision - 2
+    #[tactic(auto, using(format::specs::Place::masked))]
+    pub fn trailing(self, pattern: u64) -> u64
+        ensures { result ≡ trailingOf (binary_of self) pattern }
+    {
+        pattern & bits::ones(self.precision - 1)
+    }
+
+    // E of an infinity or a NaN.
+    pub fn last(self) -> u32
+        ensures { result ≡ 2 ^ self.field - 1 }
+    {
+        (1 << self.field) - 1
+    }
+
+    // The magnitude x 2^F, rounded: an infinity counts as 2^64, which is past every format.
+    pub fn magnitude(self, pattern: u64, format: Format) -> Wide
+        ensures { Folds (magnitude_of (binary_of self) format.frac pattern) result }
+    {
+        let e = self.biased(pattern);
+        if e == self.last() {
+            return Wide { high: 1, low: 0 };
+        }
+        let m = self.significand(e, self.trailing(pattern));
+        // how far it stands above the least positive number: a subnormal one as the first normal ones
+        let place = e.saturating_sub(1);
+        rounding::scaled(m, format.frac + place, self.least())
+    }
+
+    // T with the leading one before it, which a subnormal number has not.
+    fn significand(self, e: u32, t: u64) -> u64
+        requires { t < 2 ^ (self.precision - 1) }
+        ensures { Significand self.precision e t result }
+    {
+        if e == 0 {
+            return t;
+        }
+        bits::power(self.precision - 1) + t
+    }
+
+    // The least positive number is 2^-least.
+    pub fn least(self) -> u32
+        ensures { result ≡ leastOf (binary_of self) }
+    {
+        self.bias() + self.precision - 2
+    }
+
+    fn bias(self) -> u32
+        ensures { result ≡ biasOf (binary_of self) }
+    {
+        (1 << (self.field - 1)) - 1
+    }
 }

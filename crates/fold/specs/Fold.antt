@@ -1,17 +1,16 @@
 -- A number of any size folded into one word and a bit, and that this is enough: sums, products and rounding of what is folded give what
 -- the number gives (and a format makes the same of it: `settle-folded` of `text`). Assumes nothing.
-use Rattle.std.specs.Prelude.{◌≡◌, Bool, true, false, cond, ℕ, suc, ◌+◌, ◌-◌, ◌*◌, ◌/◌, ◌%◌, ◌^◌, ◌≤◌, ◌<◌, leb, ltb}
-use Rattle.std.proofs.Common.{sym, ◌∙◌, div-add-mod', lt_of_le_of_lt, le_of_lt, mul-le-mul_left, pow-suc, mul-pos, mul-le-mul, mod-eq_of_lt, pow_pos, pow_mono, le-leb, lt-ltb, le-ltb}
+use Rattle.std.specs.Prelude.{◌≡◌, Bool, true, false, cond, ◌||◌, ℕ, ◌+◌, ◌-◌, ◌*◌, ◌/◌, ◌%◌, ◌^◌, ◌≤◌, ◌<◌, leb, ltb}
+use Rattle.std.proofs.Common.{sym, ◌∙◌, div-add-mod', mul-pos, mul-le-mul, mod-eq_of_lt, pow_pos, le-leb, lt-ltb, le-ltb}
 use Rattle.std.proofs.Math.Path.{ap}
 use Rattle.std.proofs.Math.Nat.{mul-add-mod_self_right}
 use Rattle.std.proofs.Math.Decide.{dec_le}
 use native.Mathlib.Omega.{arith}
-use Rattle.std.proofs.Math.Arith.{digits_lt}
 use Rattle.std.proofs.lemmas.Bool.{lt-leb}
 use Rattle.laws.specs.Powers.{power-sub}
 use Rattle.fold.specs.declared.Folded.{Folded}
-use Rattle.fold.specs.declared.Order.{Order}
-use Rattle.fold.specs.declared.Order.TheVariants.{Less, Same, More}
+use Rattle.std.specs.declared.cmp.Ordering.{Ordering}
+use Rattle.std.specs.declared.cmp.Ordering.TheVariants.{Less, Equal, Greater}
 use Rattle.fold.specs.Round.{round_by}
 
 -- the number modulo 2^64, and whether it is past that
@@ -38,68 +37,49 @@ fold_words {x} m h e l f =
     go (yes k) = lt-ltb 0 h k ∙ sym (le-leb (2 ^ 64) m (omega arith))
     go (no k) = le-ltb 0 h (omega arith) ∙ sym (lt-leb (2 ^ 64) m (omega arith))
 
--- two words hold a product and a sum of words
-pub words-fit : (h l a m d : ℕ) → a < 2 ^ 64 → m < 2 ^ 64 → d < 2 ^ 64 → h * 2 ^ 64 + l ≡ a * m → h * 2 ^ 64 + l + (0 * 2 ^ 64 + d) < 2 ^ 128
-words-fit h l a m d f g k e =
-    let most : a * m ≤ a * 2 ^ 64 = mul-le-mul_left a (le_of_lt g) in
-    let sum : h * 2 ^ 64 + l + (0 * 2 ^ 64 + d) ≤ a * 2 ^ 64 + d = omega arith in
-    lt_of_le_of_lt sum (digits_lt {m = 2 ^ 64} {r = d} {c = 2 ^ 64} f k)
+-- a product and a sum, h and l the words of x.low * m + d
+pub times-done : (x : Folded) (m d : ℕ) {r : Folded} (h : ℕ) → 0 < m → h * 2 ^ 64 + r.low ≡ x.low * m + d → r.low < 2 ^ 64 → r.over ≡ (x.over || ltb 0 h)
+    → r ≡ fold_of (folded_value x * m + d)
+times-done x m d {r} h k e l f = fold_words (folded_value x * m + d) (bit x.over * m + h) (omega arith) l (f ∙ go x.over)
+  where
+    go : (b : Bool) → (b || ltb 0 h) ≡ ltb 0 (bit b * m + h)
+    go true = sym (lt-ltb 0 (1 * m + h) (omega arith))
+    go false = ap (ltb 0) (omega arith)
 
-module _ (x : Folded) (m d : ℕ) where
-  -- a product and a sum, h and l the words of x.low * m + d
-  pub times-over : {r : Folded} (h : ℕ) → 0 < m → h * 2 ^ 64 + r.low ≡ x.low * m + d → r.low < 2 ^ 64 → x.over ≡ true → r.over ≡ true
-      → r ≡ fold_of (folded_value x * m + d)
-  times-over h k e l t f = fold_words (folded_value x * m + d) (m + h) (rw t (omega arith)) l (f ∙ sym (lt-ltb 0 (m + h) (omega arith)))
-
-  pub times-under : {r : Folded} (h : ℕ) → h * 2 ^ 64 + r.low ≡ x.low * m + d → r.low < 2 ^ 64 → x.over ≡ false → r.over ≡ ltb 0 h
-      → r ≡ fold_of (folded_value x * m + d)
-  times-under h e l t f = fold_words (folded_value x * m + d) h (rw t (omega arith)) l f
-
--- rounding, as the code's cases have it
-module _ (x : Folded) {how : Order} {r : Folded} where
-  pub round-less : how ≡ Less → r ≡ fold_of (folded_value x + 0) → r ≡ fold_of (round_by how (folded_value x))
+-- what rounding adds, case by case
+module _ (x : Folded) {how : Ordering} {carry : ℕ} {r : Folded} where
+  pub round-less : how ≡ Less → carry ≡ 0 → r ≡ fold_of (folded_value x + carry) → r ≡ fold_of (round_by how (folded_value x))
   unfolding round_by
-  round-less e f = rw e (f ∙ ap fold_of (omega arith))
+  round-less e f g = rw e (g ∙ ap fold_of (omega arith))
 
-  pub round_same : how ≡ Same → r ≡ fold_of (folded_value x + x.low % 2) → r ≡ fold_of (round_by how (folded_value x))
+  pub round-equal : how ≡ Equal → carry ≡ x.low % 2 → r ≡ fold_of (folded_value x + carry) → r ≡ fold_of (round_by how (folded_value x))
   unfolding round_by
-  round_same e f =
-      let odd : x.low % 2 ≡ folded_value x % 2 = omega arith in
-      rw e (f ∙ ap (λ (b : ℕ). fold_of (folded_value x + b)) odd)
+  round-equal e f g =
+      let odd : carry ≡ folded_value x % 2 = omega arith in
+      rw e (g ∙ ap (λ (b : ℕ). fold_of (folded_value x + b)) odd)
 
-  pub round-more : how ≡ More → r ≡ fold_of (folded_value x + 1) → r ≡ fold_of (round_by how (folded_value x))
+  pub round-greater : how ≡ Greater → carry ≡ 1 → r ≡ fold_of (folded_value x + carry) → r ≡ fold_of (round_by how (folded_value x))
   unfolding round_by
-  round-more e f = rw e f
-
--- below 64 places a power of two is one word
-pub bit-fits : (k : ℕ) → k < 64 → (k < 64) × (1 * 2 ^ k < 2 ^ 64)
-bit-fits k h = (h, omega (arith, pow_mono {i = suc k} {j = 64} h, pow-suc 2 k, pow_pos k))
+  round-greater e f g = rw e (g ∙ ap (λ (b : ℕ). fold_of (folded_value x + b)) f)
 
 -- past 64 places only whether it is 0 is left
 far-words : (v k : ℕ) → 64 ≤ k → v * 2 ^ k ≡ v * 2 ^ (k - 64) * 2 ^ 64 + 0
 far-words v k far = omega (arith, ap (λ (n : ℕ). v * n) (power-sub 64 k far))
 
-module _ (x : Folded) (k : ℕ) (far : 64 ≤ k) where
-  pub scale-over : {r : Folded} → r.low ≡ 0 → x.over ≡ true → r.over ≡ true → r ≡ fold_of (folded_value x * 2 ^ k)
-  scale-over e t f =
-      let some : 0 < folded_value x * 2 ^ (k - 64) = mul-pos (rw t (omega arith)) (pow_pos (k - 64)) in
-      fold_words (folded_value x * 2 ^ k) (folded_value x * 2 ^ (k - 64)) (rw e (far-words (folded_value x) k far)) (omega arith)
-      (f ∙ sym (lt-ltb 0 (folded_value x * 2 ^ (k - 64)) some))
+pub scale-done : (x : Folded) (k : ℕ) {r : Folded} → 64 ≤ k → r.low ≡ 0 → r.over ≡ (x.over || ltb 0 x.low) → r ≡ fold_of (folded_value x * 2 ^ k)
+scale-done x k far e f =
+    fold_words (folded_value x * 2 ^ k) (folded_value x * 2 ^ (k - 64)) (rw e (far-words (folded_value x) k far)) (omega arith)
+    (f ∙ some x.over ∙ sym (go (dec_le 1 (folded_value x))))
+  where
+    some : (b : Bool) → (b || ltb 0 x.low) ≡ ltb 0 (bit b * 2 ^ 64 + x.low)
+    some true = sym (lt-ltb 0 (1 * 2 ^ 64 + x.low) (omega arith))
+    some false = ap (ltb 0) (omega arith)
 
-  pub scale-under : {r : Folded} → r.low ≡ 0 → x.over ≡ false → r.over ≡ ltb 0 x.low → r ≡ fold_of (folded_value x * 2 ^ k)
-  scale-under e t f =
-      fold_words (folded_value x * 2 ^ k) (folded_value x * 2 ^ (k - 64)) (rw e (far-words (folded_value x) k far)) (omega arith) (f ∙ go (dec_le 1 x.low))
-    where
-      same : folded_value x ≡ x.low
-      same = rw t (omega arith)
-
-      go : Dec (1 ≤ x.low) → ltb 0 x.low ≡ ltb 0 (folded_value x * 2 ^ (k - 64))
-      go (yes h) =
-          let some : 0 < folded_value x * 2 ^ (k - 64) = mul-pos (omega (arith, same)) (pow_pos (k - 64)) in
-          lt-ltb 0 x.low h ∙ sym (lt-ltb 0 (folded_value x * 2 ^ (k - 64)) some)
-      go (no h) =
-          let none : folded_value x ≡ 0 = omega (arith, same) in
-          le-ltb 0 x.low (omega arith) ∙ sym (le-ltb 0 (folded_value x * 2 ^ (k - 64)) (omega (arith, ap (λ (n : ℕ). n * 2 ^ (k - 64)) none)))
+    go : Dec (1 ≤ folded_value x) → ltb 0 (folded_value x * 2 ^ (k - 64)) ≡ ltb 0 (folded_value x)
+    go (yes h) = lt-ltb 0 (folded_value x * 2 ^ (k - 64)) (mul-pos h (pow_pos (k - 64))) ∙ sym (lt-ltb 0 (folded_value x) h)
+    go (no h) =
+        let none : folded_value x ≡ 0 = omega arith in
+        le-ltb 0 (folded_value x * 2 ^ (k - 64)) (omega (arith, ap (λ (n : ℕ). n * 2 ^ (k - 64)) none)) ∙ sym (le-ltb 0 (folded_value x) (omega arith))
 
 -- ---- what is folded stands for the number: the same number, or both are past 2^64 and differ by a whole number of it
 pub fold_same : (m n t : ℕ) → 2 ^ 64 ≤ n → m ≡ t * 2 ^ 64 + n → fold_of m ≡ fold_of n
@@ -134,6 +114,9 @@ fold_step m k d h = go (dec_le (2 ^ 64) m)
 pub fold-again : (m : ℕ) → fold_of (folded_value (fold_of m)) ≡ fold_of m
 fold-again m = ap fold_of (omega arith) ∙ fold_step m 1 0 (omega arith) ∙ ap fold_of (omega arith)
 
+pub folded_again : {x : Folded} (m : ℕ) → x ≡ fold_of m → x ≡ fold_of (folded_value x)
+folded_again m e = e ∙ sym (fold-again m) ∙ ap (λ (y : Folded). fold_of (folded_value y)) (sym e)
+
 pub fold-add : (m d : ℕ) → fold_of (folded_value (fold_of m) + d) ≡ fold_of (m + d)
 fold-add m d = ap fold_of (omega arith) ∙ fold_step m 1 d (omega arith) ∙ ap fold_of (omega arith)
 
@@ -148,8 +131,8 @@ fold-odd m = go (dec_le (2 ^ 64) m)
     go (no l) = ap (λ (n : ℕ). n % 2) (value-small m (omega arith))
     go (yes l) = omega (arith, value-large m l)
 
-pub fold-round : (m : ℕ) (how : Order) → fold_of (round_by how (folded_value (fold_of m))) ≡ fold_of (round_by how m)
+pub fold-round : (m : ℕ) (how : Ordering) → fold_of (round_by how (folded_value (fold_of m))) ≡ fold_of (round_by how m)
 unfolding round_by
 fold-round m Less = fold-again m
-fold-round m Same = ap (λ (b : ℕ). fold_of (folded_value (fold_of m) + b)) (fold-odd m) ∙ fold-add m (m % 2)
-fold-round m More = fold-add m 1
+fold-round m Equal = ap (λ (b : ℕ). fold_of (folded_value (fold_of m) + b)) (fold-odd m) ∙ fold-add m (m % 2)
+fold-round m Greater = fold-add m 1

@@ -1,96 +1,72 @@
-// The digits of a text, walked by a position: the bytes from the first digit to the
-// last, without `_` and the point between them.
-ghost use Rattle.std.specs.Prelude.{◌≡◌, ◌<◌, ◌≤◌, length};
-ghost use Rattle.fold.specs.Body.{is_gap, is_nonzero, digits_at, any_of, Next as NextOf, Taken as TakenOf};
+// The digits of a text: the bytes from the first digit to the last, without `_` and the point between them.
+ghost use Rattle.std.specs.Prelude.{◌≡◌, ◌<◌, take, drop};
+ghost use Rattle.std.specs.Iterator.{YieldsFirst, item_count};
+ghost use Rattle.grammar.specs.Naturals.{nat_of};
+ghost use Rattle.grammar.specs.Run.{body_of};
+ghost use Rattle.fold.specs.Fold.{fold_of};
+ghost use Rattle.fold.specs.Body.{is_gap, digits_left, any_of};
 
 use crate::Folded;
 
-const UNDERSCORE: u8 = 95;
-
-const POINT: u8 = 46;
-
-// A digit, and the position after it.
-#[derive(Clone, Copy)]
-pub struct Next {
-    pub digit: u64,
-    pub at: usize,
-}
-
-// The number that some digits make, and the position after them.
-#[derive(Clone, Copy)]
-pub struct Taken {
-    pub number: Folded,
-    pub at: usize,
+// The digits that are still to come.
+#[derive(Clone, Copy, Drop)]
+pub struct Digits<'a> {
+    rest: &'a [u8],
 }
 
 // A byte that is no digit and stands between two.
 fn is_gap(b: u8) -> bool
     ensures { result ≡ is_gap b }
 {
-    if b == UNDERSCORE {
-        return true;
-    }
-    b == POINT
+    matches!(b, b'_' | b'.')
 }
 
-// A digit that is not 0.
-fn is_nonzero(b: u8) -> bool
-    ensures { result ≡ is_nonzero b }
-{
-    if is_gap(b) {
-        return false;
+impl<'a> Iterator for Digits<'a> {
+    type Item = u64;
+
+    ghost next_gives = { YieldsFirst digits_left };
+
+    ghost remaining = { item_count digits_left };
+
+    fn next(&mut self) -> Option<u64> {
+        while let Some((byte, rest)) = self.rest.split_first() {
+            self.rest = rest;
+            if !is_gap(*byte) {
+                return Some(u64::from(grammar::byte::digit_of(*byte)));
+            }
+        }
+        None
     }
-    0 < grammar::byte::digit_of(b)
 }
 
-// The first digit from a position on; 0 where there is none.
-pub fn next_digit(body: &[u8], from: usize) -> Next
-    requires { from ≤ length body.now }
-    ensures { NextOf body.now from result.digit result.at }
-{
-    let mut i = from;
-    while i < body.len() {
-        let b = body[i];
-        if is_gap(b) {
-            i += 1;
-        } else {
-            return Next {
-                digit: grammar::byte::digit_of(b) as u64,
-                at: i + 1,
+impl<'a> Digits<'a> {
+    // All of a text's.
+    pub fn of(body: &'a [u8]) -> Digits<'a>
+        ensures { digits_left result ≡ body_of body.now }
+    {
+        Digits { rest: body }
+    }
+
+    // The next `count` digits as one number in the radix.
+    pub fn number(&mut self, count: usize, radix: u64) -> Folded
+        requires { 0 < radix }
+        ensures value { result ≡ fold_of (nat_of radix (take count (digits_left self.old))) }
+        ensures rest { digits_left self.new ≡ drop count (digits_left self.old) }
+    {
+        let mut number = Folded::from(0);
+        for _ in 0..count {
+            let Some(digit) = self.next() else {
+                break;
             };
+            number = number.times(radix, digit);
         }
+        number
     }
-    Next { digit: 0, at: i }
-}
 
-// The next `count` digits as one number in the radix.
-pub fn fold_digits(body: &[u8], from: usize, count: usize, radix: u64) -> Taken
-    requires { (0 < radix) × (from ≤ length body.now) × (count ≤ length (digits_at body.now from)) }
-    ensures { TakenOf body.now from count radix result.number result.at }
-{
-    let mut number = crate::of(0);
-    let mut at = from;
-    let mut k: usize = 0;
-    while k < count {
-        let next = next_digit(body, at);
-        number = crate::times(number, radix, next.digit);
-        at = next.at;
-        k += 1;
+    // Whether any of them is not 0.
+    pub fn any_nonzero(mut self) -> bool
+        ensures { result ≡ any_of (digits_left self.entry) }
+    {
+        self.any(|digit| digit != 0)
     }
-    Taken { number, at }
-}
-
-// Whether any digit from a position on is not 0.
-pub fn any_nonzero(body: &[u8], from: usize) -> bool
-    requires { from ≤ length body.now }
-    ensures { result ≡ any_of (digits_at body.now from) }
-{
-    let mut i = from;
-    while i < body.len() {
-        if is_nonzero(body[i]) {
-            return true;
-        }
-        i += 1;
-    }
-    false
 }

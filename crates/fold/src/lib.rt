@@ -3,10 +3,10 @@
 #![tactic(auto)]
 
 ghost use Rattle.std.specs.Prelude.{◌≡◌, ◌+◌, ◌*◌, ◌^◌, ◌<◌};
-ghost use Rattle.wide.specs.Meaning.{value_of as wide_of};
 ghost use Rattle.fold.specs.Fold.{fold_of, folded_value, bit};
 ghost use Rattle.fold.specs.Round.{round_by};
 
+use std::cmp::Ordering;
 use wide::Wide;
 
 pub mod body;
@@ -17,91 +17,68 @@ pub struct Folded {
     pub over: bool,
 }
 
-// How one number compares with another.
-#[derive(Clone, Copy)]
-pub enum Order {
-    Less,
-    Same,
-    More,
-}
-
 // A number of one word.
-pub fn of(b: u64) -> Folded
-    ensures { result ≡ fold_of b }
-{
-    Folded {
-        low: b,
-        over: false,
+impl From<u64> for Folded {
+    ghost from_gives = { λ word x. x ≡ fold_of word };
+
+    fn from(word: u64) -> Folded {
+        Folded {
+            low: word,
+            over: false,
+        }
     }
 }
 
-// The word above `low`: with it, a format settles the number.
-pub fn high(x: Folded) -> u64
-    ensures { result ≡ bit x.over }
-{
-    if x.over {
-        return 1;
+impl Folded {
+    // The word above `low`: with it, a format settles the number.
+    pub fn high(self) -> u64
+        ensures { result ≡ bit self.over }
+    {
+        u64::from(self.over)
     }
-    0
-}
 
-// a * m + d, which two words always hold.
-fn words(a: u64, m: u64, d: u64) -> Wide
-    ensures { wide_of result ≡ a * m + d }
-{
-    wide::add(wide::mul(a, m), Wide { high: 0, low: d })
-}
-
-// x * m + d. Once past 2^64, a number stays past it.
-pub fn times(x: Folded, m: u64, d: u64) -> Folded
-    requires { 0 < m }
-    ensures { result ≡ fold_of (folded_value x * m + d) }
-{
-    let sum = words(x.low, m, d);
-    let far = 0 < sum.high;
-    if x.over {
-        return Folded {
+    // self * m + d, which two words hold. Once past 2^64, a number stays past it.
+    pub fn times(self, m: u64, d: u64) -> Folded
+        requires { 0 < m }
+        ensures { result ≡ fold_of (folded_value self * m + d) }
+    {
+        let sum = wide::add(wide::mul(self.low, m), Wide { high: 0, low: d });
+        Folded {
             low: sum.low,
-            over: true,
+            over: self.over || 0 < sum.high,
+        }
+    }
+
+    // self + b.
+    pub fn plus(self, b: u64) -> Folded
+        ensures { result ≡ fold_of (folded_value self + b) }
+    {
+        self.times(1, b)
+    }
+
+    // self * 2^k, for every k.
+    pub fn scaled(self, k: u64) -> Folded
+        ensures { result ≡ fold_of (folded_value self * 2 ^ k) }
+    {
+        if k < 64 {
+            return self.times(wide::shl_word(1, k as u32), 0);
+        }
+        Folded {
+            low: 0,
+            over: self.over || 0 < self.low,
+        }
+    }
+
+    // The number or the next, by how the fraction that was cut off compares with one
+    // half. The number's own last bit decides a tie.
+    pub fn rounded(self, how: Ordering) -> Folded
+        ensures { result ≡ fold_of (round_by how (folded_value self)) }
+    {
+        let carry = match how {
+            Ordering::Less => 0,
+            Ordering::Equal => self.low % 2,
+            Ordering::Greater => 1,
         };
-    }
-    Folded {
-        low: sum.low,
-        over: far,
-    }
-}
-
-// x + b.
-pub fn add(x: Folded, b: u64) -> Folded
-    ensures { result ≡ fold_of (folded_value x + b) }
-{
-    times(x, 1, b)
-}
-
-// x * 2^k, for every k.
-pub fn scaled(x: Folded, k: u64) -> Folded
-    ensures { result ≡ fold_of (folded_value x * 2 ^ k) }
-{
-    if k < 64 {
-        return times(x, wide::shl_word(1, k as u32), 0);
-    }
-    if x.over {
-        return Folded { low: 0, over: true };
-    }
-    Folded {
-        low: 0,
-        over: 0 < x.low,
-    }
-}
-
-// The number or the next, by how the fraction that was cut off compares with one
-// half. The number's own last bit decides a tie.
-pub fn rounded(x: Folded, how: Order) -> Folded
-    ensures { result ≡ fold_of (round_by how (folded_value x)) }
-{
-    match how {
-        Order::Less => add(x, 0),
-        Order::Same => add(x, x.low % 2),
-        Order::More => add(x, 1),
+        self.plus(carry)
     }
 }

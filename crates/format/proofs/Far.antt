@@ -8,7 +8,8 @@ use Rattle.std.proofs.lemmas.Bool.{lt-leb}
 use Rattle.laws.specs.Signed.{signed as kit}
 use Rattle.format.specs.declared.Manner.{Manner}
 use Rattle.format.specs.declared.Manner.TheVariants.{Strict, Saturating, Wrapping, Overflowing}
-use Rattle.format.specs.Meaning.{Sign, signed, unsigned, is_width, lowest, highest, fits, hold, wrap, settle, with_sign, exact, done}
+use Rattle.format.specs.Meaning.{Sign, signed, unsigned, lowest, highest, fits, hold, wrap, settle, with_sign, exact, done}
+use Rattle.format.specs.Meaning.{is_width}
 use Rattle.format.specs.Fault.{width-bounds, half-word}
 use Rattle.format.specs.Theorems.{limit, lowest-out, highest-out}
 use Rattle.format.specs.Place.{sign-out}

@@ -1,52 +1,75 @@
--- From an outcome to the answer that stands for it, and from the manner that a match found to the manner that was asked for.
--- Assumes nothing.
-use Rattle.std.specs.Prelude.{◌≡◌, Bool, ℕ, ℤ}
+-- From an outcome to the answer that stands for it. Assumes nothing.
+use Rattle.std.specs.Option.{ok_or}
+use Rattle.std.specs.Result.{IsErrAnd}
+use Rattle.std.proofs.lemmas.Result.{err_from_is_err_and}
+use Rattle.std.specs.Prelude.{◌≡◌, refl, true, false, not, is_some, is_none, Option, Some, None, Ok, Err, Bool, ℕ, ℤ}
 use Rattle.std.proofs.Common.{sym, ◌∙◌}
 use Rattle.std.proofs.Math.Path.{ap}
-use Rattle.laws.specs.Diff.{up}
+use Rattle.format.specs.declared.refusal.Refusal.{Refusal}
+use Rattle.format.specs.declared.refusal.Refusal.TheVariants.{WrongWidth, WrongFrac, WrongRadix, TooLong, WrongLength, Overflow, NoDigits, MisplacedSign, InvalidDigit, MisplacedUnderscore, TooManyPoints, ExpInvalidDigit, ExpNoDigits, TooManyExp, ExpOverflow, NotANumber, ZeroDivisor, NotPositive, WrongTaps, TooManyValues}
+use Rattle.format.specs.Meaning.{number, named}
+use Rattle.format.specs.Checked.{Refuses}
 use Rattle.format.specs.declared.Manner.{Manner}
-use Rattle.format.specs.declared.SignedAnswer.{SignedAnswer}
-use Rattle.format.specs.declared.SignedAnswer.TheVariants.{Done as DoneS, Refused as RefusedS}
-use Rattle.format.specs.declared.UnsignedAnswer.{UnsignedAnswer}
-use Rattle.format.specs.declared.UnsignedAnswer.TheVariants.{Done as DoneU, Refused as RefusedU}
-use Rattle.format.specs.Meaning.{Sign, settle, unless, Outcome, done, refused, signed_answer, unsigned_answer}
+use Rattle.format.specs.Meaning.{Sign, settle, Kind, Answered, unless, Outcome, done, refused, answered}
 use Rattle.format.specs.Settle.{unless-fault, unless-none}
 
-module _ {o : Outcome} where
-  pub done-signed : {y z : ℤ} {f : Bool} → o ≡ done z f → y ≡ z → DoneS y f ≡ signed_answer o
-  unfolding signed_answer
-  done-signed {f = f} e q = ap (λ (x : ℤ). DoneS x f) q ∙ ap signed_answer (sym e)
+module _ {A : Type 0} (c : Kind A) {o : Outcome} where
+  pub done-answered : {y : A} {z : ℤ} {f : Bool} → o ≡ done z f → y ≡ c.raw_of z → Ok (record { raw = y; flag = f }) ≡ answered c o
+  unfolding answered
+  done-answered {f = f} e q = rw (e, q)
 
-  pub refused-signed : {n : ℕ} → o ≡ refused n → RefusedS n ≡ signed_answer o
-  unfolding signed_answer
-  refused-signed e = ap signed_answer (sym e)
+  pub refused-answered : {n : ℕ} → o ≡ refused n → Err (named n) ≡ answered c o
+  unfolding answered
+  refused-answered e = rw e
 
-  pub done-unsigned : {y : ℕ} {z : ℤ} {f : Bool} → o ≡ done z f → y ≡ up z → DoneU y f ≡ unsigned_answer o
-  unfolding unsigned_answer
-  done-unsigned {f = f} e q = ap (λ (x : ℕ). DoneU x f) q ∙ ap unsigned_answer (sym e)
+-- a refusal is answered; without one the outcome is
+module _ {A : Type 0} (c : Kind A) (n : ℕ) (o : Outcome) where
+  pub fault-answered : {e : Refusal} → Refuses n e → Err e ≡ answered c (unless n o)
+  fault-answered r = ap Err r.named_is ∙ refused-answered c (unless-fault n o r.fault)
 
-  pub refused-unsigned : {n : ℕ} → o ≡ refused n → RefusedU n ≡ unsigned_answer o
-  unfolding unsigned_answer
-  refused-unsigned e = ap unsigned_answer (sym e)
+  pub pass-answered : {r : Answered A} → n ≡ 0 → r ≡ answered c o → r ≡ answered c (unless n o)
+  pass-answered z q = q ∙ ap (answered c) (sym (unless-none n o z))
+
+  -- at the exit of a `?`
+  pub exit-answered : {e : Refusal} (r : Answered A) → IsErrAnd r (λ d. d ≡ e) → Refuses n e → r ≡ answered c (unless n o)
+  exit-answered r h q = let p = err_from_is_err_and r h in p.1 ∙ ap Err p.2 ∙ fault-answered q
+
+-- what `ok_or` says of an option that is none
+pub none-or : {T E : Type 0} (o : Option T) {e d : E} → Err e ≡ ok_or o d → (o ≡ None) × (e ≡ d)
+none-or (Some x) q = cc
+none-or None q = (refl, cc)
+
+-- what `is_none` says
+pub none-not : {T : Type 0} (o : Option T) (b : Bool) → is_some o ≡ not b → b ≡ is_none o
+none-not (Some x) true q = q
+none-not (Some x) false q = refl
+none-not None true q = refl
+none-not None false q = q
 
 -- the manner that a match found
-module _ (s : Sign) (w : ℕ) (x : ℤ) {j k : Manner} where
-  pub by-manner-signed : {r : SignedAnswer} → k ≡ j → r ≡ signed_answer (settle j s w x) → r ≡ signed_answer (settle k s w x)
-  by-manner-signed e q = q ∙ ap (λ (m : Manner). signed_answer (settle m s w x)) (sym e)
+pub at-manner : (s : Sign) (w : ℕ) (x : ℤ) {j k : Manner} {o : Outcome} → k ≡ j → settle j s w x ≡ o → settle k s w x ≡ o
+at-manner s w x e q = rw e q
 
-  pub by-manner-unsigned : {r : UnsignedAnswer} → k ≡ j → r ≡ unsigned_answer (settle j s w x) → r ≡ unsigned_answer (settle k s w x)
-  by-manner-unsigned e q = q ∙ ap (λ (m : Manner). unsigned_answer (settle m s w x)) (sym e)
-
--- a fault is answered; without one the outcome is
-module _ (n : ℕ) (o : Outcome) {fault : ℕ} (e : fault ≡ n) where
-  pub fault-signed : (fault ≡ 0 → ⊥) → RefusedS fault ≡ signed_answer (unless n o)
-  fault-signed h = ap RefusedS e ∙ refused-signed (unless-fault n o (λ z. h (e ∙ z)))
-
-  pub fault-unsigned : (fault ≡ 0 → ⊥) → RefusedU fault ≡ unsigned_answer (unless n o)
-  fault-unsigned h = ap RefusedU e ∙ refused-unsigned (unless-fault n o (λ z. h (e ∙ z)))
-
-  pub pass-signed : {r : SignedAnswer} → fault ≡ 0 → r ≡ signed_answer o → r ≡ signed_answer (unless n o)
-  pass-signed z q = q ∙ ap signed_answer (sym (unless-none n o (sym e ∙ z)))
-
-  pub pass-unsigned : {r : UnsignedAnswer} → fault ≡ 0 → r ≡ unsigned_answer o → r ≡ unsigned_answer (unless n o)
-  pass-unsigned z q = q ∙ ap unsigned_answer (sym (unless-none n o (sym e ∙ z)))
+-- each refusal is found again by its number, so no two have the same
+pub named-number : (e : Refusal) → named (number e) ≡ e
+unfolding named number
+named-number WrongWidth = refl
+named-number WrongFrac = refl
+named-number WrongRadix = refl
+named-number TooLong = refl
+named-number WrongLength = refl
+named-number Overflow = refl
+named-number NoDigits = refl
+named-number MisplacedSign = refl
+named-number InvalidDigit = refl
+named-number MisplacedUnderscore = refl
+named-number TooManyPoints = refl
+named-number ExpInvalidDigit = refl
+named-number ExpNoDigits = refl
+named-number TooManyExp = refl
+named-number ExpOverflow = refl
+named-number NotANumber = refl
+named-number ZeroDivisor = refl
+named-number NotPositive = refl
+named-number WrongTaps = refl
+named-number TooManyValues = refl

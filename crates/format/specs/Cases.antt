@@ -2,7 +2,8 @@
 -- that is already rounded, and what it gives. Assumes nothing.
 use Rattle.std.specs.Prelude.{◌≡◌, refl, true, false, List, [], ◌∷◌, map, ℕ, ℤ, pos, neg_ℤ}
 use Rattle.format.specs.declared.Manner.TheVariants.{Strict, Saturating, Wrapping, Overflowing}
-use Rattle.format.specs.Meaning.{signed, unsigned, is_width, fault_of, lowest, highest, fits, hold}
+use Rattle.format.specs.Meaning.{signed, unsigned, fault_of, lowest, highest, fits, hold}
+use Rattle.format.specs.Meaning.{is_width}
 use Rattle.format.specs.Meaning.{wrap, settle, with_sign, unless, Outcome, done, refused, guarded}
 
 -- what comes out, with the flag clear: a raw, or one below 0

@@ -2,7 +2,8 @@
 use Rattle.std.specs.Prelude.{◌≡◌, refl, Bool, true, false, cond, ◌||◌, ℕ, suc, ◌+◌, ◌-◌, ◌^◌, ◌≤◌, ◌<◌, leb, eqb}
 use Rattle.std.proofs.Common.{sym, ap, ◌∙◌, pow-suc, pow_mono, arith, le-leb, leb-true, eqb-true}
 use Rattle.std.proofs.lemmas.Bool.{false≢true, lt-leb}
-use Rattle.format.specs.Meaning.{is_width, fault_of}
+use Rattle.format.specs.Meaning.{fault_of}
+use Rattle.format.specs.Meaning.{is_width}
 
 pub fault-width : (w f : ℕ) {b : Bool} → b ≡ is_width w → b ≡ false → 1 ≡ fault_of w f
 unfolding fault_of

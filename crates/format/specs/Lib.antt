@@ -1,8 +1,11 @@
 pub mod Answer
 pub mod Cases
+pub mod Checked
 pub mod Fault
 pub mod Meaning
 pub mod Place
 pub mod Promise
+pub mod Refusal
 pub mod Settle
 pub mod Theorems
+pub mod Width

@@ -1,15 +1,14 @@
 -- What a format is, which raws it has, and what becomes of an exact number in each manner:
 -- document 01, "Domain and numbers". Assumes nothing.
-use Rattle.std.specs.Prelude.{Bool, true, false, cond, not, ◌&&◌, ◌||◌, ℕ, ◌-◌, ◌*◌, ◌+◌, ◌^◌, leb, eqb, ℤ, pos, neg_ℤ, ◌-ℤ◌, ◌*ℤ◌}
+use Rattle.std.specs.Prelude.{Result, Ok, Err, Bool, ◌||◌, true, false, cond, not, ◌&&◌, ℕ, ◌-◌, ◌*◌, ◌+◌, ◌^◌, leb, eqb, ℤ, pos, neg_ℤ, ◌-ℤ◌, ◌*ℤ◌}
 use Rattle.std.specs.Int.Signed.{le_z, lt_z}
 use Rattle.laws.specs.Diff.{up}
 use Rattle.laws.specs.Floor.{floor}
 use Rattle.format.specs.declared.Manner.{Manner}
 use Rattle.format.specs.declared.Manner.TheVariants.{Strict, Saturating, Wrapping, Overflowing}
-use Rattle.format.specs.declared.SignedAnswer.{SignedAnswer}
-use Rattle.format.specs.declared.SignedAnswer.TheVariants.{Done as DoneS, Refused as RefusedS}
-use Rattle.format.specs.declared.UnsignedAnswer.{UnsignedAnswer}
-use Rattle.format.specs.declared.UnsignedAnswer.TheVariants.{Done as DoneU, Refused as RefusedU}
+use Rattle.format.specs.declared.Answer.{Answer}
+use Rattle.format.specs.declared.refusal.Refusal.{Refusal}
+use Rattle.format.specs.declared.refusal.Refusal.TheVariants.{WrongWidth, WrongFrac, WrongRadix, TooLong, WrongLength, Overflow, NoDigits, MisplacedSign, InvalidDigit, MisplacedUnderscore, TooManyPoints, ExpInvalidDigit, ExpNoDigits, TooManyExp, ExpOverflow, NotANumber, ZeroDivisor, NotPositive, WrongTaps, TooManyValues}
 
 -- "A format is a width W (8, 16, 32 or 64), signed or unsigned, and F fraction bits, 0 to W."
 pub data Sign : Type 0 where
@@ -71,36 +70,92 @@ with_sign false m = pos m
 abbrev pub exact : Bool → ℕ → ℕ → ℤ
 exact neg high low = with_sign neg (high * 2 ^ 64 + low)
 
--- The answers of the code stand for outcomes. An unsigned outcome is never negative (Theorems: `settle-unsigned`).
-unfoldable pub signed_answer : Outcome → SignedAnswer
-signed_answer (done x f) = DoneS x f
-signed_answer (refused n) = RefusedS n
+-- a format is signed or not
+unfoldable pub sign_by : Bool → Sign
+sign_by true = signed
+sign_by false = unsigned
 
-unfoldable pub unsigned_answer : Outcome → UnsignedAnswer
-unsigned_answer (done x f) = DoneU (up x) f
-unsigned_answer (refused n) = RefusedU n
+-- ---- The refusals, with their numbers in the table of answers.
+-- the number of a refusal in the table
+unfoldable pub number : Refusal → ℕ
+number WrongWidth = 1
+number WrongFrac = 2
+number WrongRadix = 3
+number TooLong = 4
+number WrongLength = 5
+number Overflow = 10
+number NoDigits = 11
+number MisplacedSign = 12
+number InvalidDigit = 13
+number MisplacedUnderscore = 14
+number TooManyPoints = 15
+number ExpInvalidDigit = 16
+number ExpNoDigits = 17
+number TooManyExp = 18
+number ExpOverflow = 19
+number NotANumber = 30
+number ZeroDivisor = 31
+number NotPositive = 32
+number WrongTaps = 40
+number TooManyValues = 41
+
+-- the refusal of a number of the table; any other number has none, and is taken for the last
+unfoldable pub named : ℕ → Refusal
+named n =
+    cond (eqb n 1) WrongWidth
+    (cond (eqb n 2) WrongFrac
+    (cond (eqb n 3) WrongRadix
+    (cond (eqb n 4) TooLong
+    (cond (eqb n 5) WrongLength
+    (cond (eqb n 10) Overflow
+    (cond (eqb n 11) NoDigits
+    (cond (eqb n 12) MisplacedSign
+    (cond (eqb n 13) InvalidDigit
+    (cond (eqb n 14) MisplacedUnderscore
+    (cond (eqb n 15) TooManyPoints
+    (cond (eqb n 16) ExpInvalidDigit
+    (cond (eqb n 17) ExpNoDigits
+    (cond (eqb n 18) TooManyExp
+    (cond (eqb n 19) ExpOverflow
+    (cond (eqb n 30) NotANumber
+    (cond (eqb n 31) ZeroDivisor
+    (cond (eqb n 32) NotPositive
+    (cond (eqb n 40) WrongTaps
+    TooManyValues))))))))))))))))))
+
+-- What the code calls a raw, an i64 in a signed format and a u64 in an unsigned one: the number that a raw stands for, and the raw of a number.
+pub record Kind (A : Type 0) : Type 0 where
+  pub sign : Sign
+  pub number_of : A → ℤ
+  pub raw_of : ℤ → A
+
+abbrev pub signed_kind : Kind ℤ
+signed_kind = record { sign = signed; number_of = λ x. x; raw_of = λ x. x }
+
+abbrev pub unsigned_kind : Kind ℕ
+unsigned_kind = record { sign = unsigned; number_of = pos; raw_of = up }
+
+-- The answers of the code stand for outcomes. An unsigned outcome is never negative (Theorems: `settle-unsigned`).
+abbrev pub Answered : Type 0 → Type 0
+Answered A = Result (Answer A) Refusal
+
+unfoldable pub answered : {A : Type 0} → Kind A → Outcome → Answered A
+answered k (done x f) = Ok (record { raw = k.raw_of x; flag = f })
+answered k (refused n) = Err (named n)
+
+-- A value, or the refusal of a number, 0 for none.
+unfoldable pub checked : {A : Type 0} → ℕ → A → Result A Refusal
+checked n a = guarded n (λ m. Err (named m)) (Ok a)
 
 -- Number, value and flag of an answer: "Every refusal has value 0, flag clear".
-unfoldable pub number_s : SignedAnswer → ℕ
-number_s (DoneS x f) = 0
-number_s (RefusedS n) = n
+unfoldable pub number_in : {A : Type 0} → Answered A → ℕ
+number_in (Ok a) = 0
+number_in (Err e) = number e
 
-unfoldable pub value_s : SignedAnswer → ℤ
-value_s (DoneS x f) = x
-value_s (RefusedS n) = pos 0
+unfoldable pub value_in : {A : Type 0} → Kind A → Answered A → A
+value_in k (Ok a) = a.raw
+value_in k (Err e) = k.raw_of (pos 0)
 
-unfoldable pub flag_s : SignedAnswer → Bool
-flag_s (DoneS x f) = f
-flag_s (RefusedS n) = false
-
-unfoldable pub number_u : UnsignedAnswer → ℕ
-number_u (DoneU x f) = 0
-number_u (RefusedU n) = n
-
-unfoldable pub value_u : UnsignedAnswer → ℕ
-value_u (DoneU x f) = x
-value_u (RefusedU n) = 0
-
-unfoldable pub flag_u : UnsignedAnswer → Bool
-flag_u (DoneU x f) = f
-flag_u (RefusedU n) = false
+unfoldable pub flag_in : {A : Type 0} → Answered A → Bool
+flag_in (Ok a) = a.flag
+flag_in (Err e) = false

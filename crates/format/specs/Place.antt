@@ -1,11 +1,14 @@
 -- A number as a sign and a magnitude, placed in a format by the magnitude alone: what the code tests and computes, and that it is
 -- what the meaning says. Assumes nothing.
-use Rattle.std.specs.Prelude.{◌≡◌, Bool, cond, ℕ, ◌+◌, ◌*◌, ◌-◌, ◌/◌, ◌%◌, ◌^◌, ◌≤◌, ◌<◌, min, leb, ltb, ℤ, ◌+ℤ◌, ◌*ℤ◌}
+use Rattle.std.specs.Prelude.{◌≡◌, Option, Some, None, Bool, cond, ℕ, ◌+◌, ◌*◌, ◌-◌, ◌/◌, ◌%◌, ◌^◌, ◌≤◌, ◌<◌, leb, ltb, ℤ, ◌+ℤ◌, ◌*ℤ◌}
 use Rattle.std.proofs.Math.Path.{refl, ap}
-use Rattle.std.proofs.Common.{sym, ◌∙◌, div-add-mod', arith, pow_pos, SFits}
+use Rattle.std.proofs.Common.{sym, add-one, ◌∙◌, div-add-mod', arith, pow_pos, SFits}
 use Rattle.std.proofs.Math.Bool.{true, false}
 use Rattle.std.proofs.Math.Nat.{mod-lt}
 use Rattle.std.proofs.Math.Dec.{eqb}
+use Rattle.std.proofs.Math.Decide.{dec_le}
+use Rattle.std.specs.Int.Signed.{lt_z}
+use Rattle.std.specs.Prelude.{unsigned_abs}
 use Rattle.std.proofs.Math.IntN.{pos, negsuc, neg_ℤ}
 use Rattle.std.specs.Int.Bits.{bit_and}
 use Rattle.std.proofs.lemmas.Nat.{and_mask}
@@ -17,7 +20,7 @@ use Rattle.laws.specs.Order.{mul-out}
 use Rattle.laws.specs.Powers.{power-sub}
 use Rattle.laws.specs.Ring.{*ℤ-distribʳ}
 use Rattle.laws.specs.Signed.{signed as kit}
-use Rattle.format.specs.Meaning.{signed, unsigned, wrap, with_sign}
+use Rattle.format.specs.Meaning.{Sign, signed, unsigned, wrap, with_sign}
 use Rattle.format.specs.Theorems.{Congruent, limit, lowest-out, highest-out, limit-span}
 use Rattle.format.specs.Theorems.{wrap-in, wrap-only, wrap-congruent}
 
@@ -148,23 +151,31 @@ module _ (low w all : ℕ) (mask : all ≡ 2 ^ w - 1) where
   unfolding residue
   residue-rest t e = simp (t, ne_eqb _ _ (λ z. e (masked ∙ z))) (omega (arith, mask, masked, e, mod-lt low (pow_pos w)))
 
+  pub residue-same : {neg : Bool} → (neg ≡ true → bit_and low all ≡ 0) → bit_and low all ≡ residue neg low w
+  unfolding residue
+  residue-same {neg = true} z = let e = z refl in simp (eq-eqb _ _ (sym masked ∙ e)) e
+  residue-same {neg = false} z = masked
+
   pub residue-low : {neg : Bool} → neg ≡ false → bit_and low all ≡ residue neg low w
   unfolding residue
   residue-low t = rw t masked
 
--- ---- two words against a limit of one word
-abbrev pub PlacedAs : ℕ → ℕ → ℕ → Bool → ℕ → Type 0
-PlacedAs high low end ok held = (ok ≡ leb (high * 2 ^ 64 + low) end) × (held ≡ min (high * 2 ^ 64 + low) end)
+-- ---- two words within a limit of one word: the magnitude, where it is
+unfoldable pub within_of : ℕ → ℕ → ℕ → Option ℕ
+within_of high low end = cond (leb (high * 2 ^ 64 + low) end) (Some (high * 2 ^ 64 + low)) None
 
 module _ (high low end : ℕ) where
-  pub placed-in : high ≡ 0 → low ≤ end → PlacedAs high low end true low
-  placed-in z h = (sym (le-leb (high * 2 ^ 64 + low) end (omega arith)), omega arith)
+  pub within-in : high ≡ 0 → low ≤ end → Some low ≡ within_of high low end
+  unfolding within_of
+  within-in z h = let e : low ≡ high * 2 ^ 64 + low = omega arith in rw (le-leb (high * 2 ^ 64 + low) end (omega arith)) (ap Some e)
 
-  pub placed_past : high ≡ 0 → end < low → PlacedAs high low end false end
-  placed_past z h = (sym (lt-leb (high * 2 ^ 64 + low) end (omega arith)), omega arith)
-
-  pub placed-far : (high ≡ 0 → ⊥) → end < 2 ^ 64 → PlacedAs high low end false end
-  placed-far z h = (sym (lt-leb (high * 2 ^ 64 + low) end (omega arith)), omega arith)
+  pub within-past : (high ≡ 0 → end < low) → end < 2 ^ 64 → None ≡ within_of high low end
+  unfolding within_of
+  within-past h e = rw (lt-leb (high * 2 ^ 64 + low) end (far (dec_le 1 high)))
+    where
+      far : Dec (1 ≤ high) → end < high * 2 ^ 64 + low
+      far (yes z) = omega arith
+      far (no z) = let k : high ≡ 0 = omega arith in let b = h k in omega arith
 
 -- ---- a sign and a magnitude of one word, and a residue, as the code makes them signed
 module _ {neg : Bool} (m : ℕ) where
@@ -186,6 +197,10 @@ module _ {neg : Bool} (m : ℕ) where
   pub sign-above-fits : neg ≡ false → SFits w64 (with_sign neg m) → m < 2 ^ 63
   sign-above-fits t f = omega (arith, sfits-out (rw t at f), sign-out false m)
 
+-- what the code turns of the upper half, with `t` the highest residue
+pub turned : (u w : ℕ) {t : ℕ} → t ≡ 2 ^ w - 1 → neg_ℤ (pos (t - u + 1)) ≡ negsuc (2 ^ w - 1 - u)
+turned u w {t} e = ap (λ (k : ℕ). neg_ℤ (pos k)) (add-one (t - u)) ∙ ap (λ (k : ℕ). negsuc (k - u)) e
+
 module _ (u w : ℕ) {r : ℤ} where
   pub resigned-low : u < 2 ^ (w - 1) → r ≡ pos u → r ≡ resigned u w
   unfolding resigned
@@ -203,3 +218,21 @@ residue-below true low w = go (eqb (low % 2 ^ w) 0) refl
     go : (t : Bool) → eqb (low % 2 ^ w) 0 ≡ t → cond t 0 (2 ^ w - low % 2 ^ w) < 2 ^ w
     go true e = pow_pos w
     go false e = omega (arith, eqb-false (low % 2 ^ w) 0 e, pow_pos w)
+
+-- ---- the raw that a residue stands for, by the sign
+unfoldable pub residue_raw : Sign → ℕ → ℕ → ℤ
+residue_raw signed u w = resigned u w
+residue_raw unsigned u w = pos u
+
+-- the raw of a number's residue is the number's wrap
+module _ (high low w : ℕ) (some : 0 < w) (word : w ≤ 64) (neg : Bool) where
+  pub residue-raw-wraps : (s : Sign) → residue_raw s (residue neg low w) w ≡ wrap s w (with_sign neg (high * 2 ^ 64 + low))
+  unfolding residue_raw
+  residue-raw-wraps signed = resigned-wraps w (residue neg low w) (with_sign neg (high * 2 ^ 64 + low)) some (residue-wraps high low w some word neg)
+  residue-raw-wraps unsigned = residue-wraps high low w some word neg
+
+-- a number from its sign and its magnitude
+pub sign-back : (x : ℤ) → with_sign (lt_z x (pos 0)) (unsigned_abs x) ≡ x
+unfolding with_sign
+sign-back (pos n) = rw (le-ltb n 0 (omega arith))
+sign-back (negsuc n) = refl

@@ -1,13 +1,14 @@
 -- The four manners from what the code finds of a number: whether its magnitude is within the limit on its side, the magnitude held
 -- to that limit, and the raw that the residue stands for. One law a manner, over the width and the sign. Assumes nothing.
-use Rattle.std.specs.Prelude.{◌≡◌, Bool, true, false, ℕ, ◌-◌, ◌^◌, ◌≤◌, ℤ, pos}
-use Rattle.std.proofs.Math.Path.{sym, ap}
-use Rattle.std.proofs.Common.{◌∙◌, arith, pow_pos, SFits}
+use Rattle.std.specs.Prelude.{◌≡◌, Bool, true, false, ℕ, ◌-◌, ◌^◌, ◌≤◌, ◌<◌, ℤ, pos}
+use Rattle.std.proofs.Math.Path.{refl, sym, ap}
+use Rattle.std.proofs.Common.{◌∙◌, true≢false, arith, pow_pos, SFits}
 use Rattle.std.specs.Int.{w64}
 use borrow.Author.Tests.{eq-eqb, ne_eqb}
 use Rattle.laws.specs.Bound.{sfits-in}
 use Rattle.laws.specs.Diff.{up}
-use Rattle.format.specs.Meaning.{Sign, signed, unsigned, is_width, wrap, settle, unless, with_sign, exact, Outcome, done, refused, guarded}
+use Rattle.format.specs.Meaning.{Sign, signed, unsigned, wrap, settle, unless, with_sign, exact, Outcome, done, refused, guarded}
+use Rattle.format.specs.Meaning.{is_width}
 use Rattle.format.specs.Fault.{width-bounds, half-word}
 use Rattle.format.specs.Theorems.{limit}
 use Rattle.format.specs.Place.{sign-out, residue, residue-wraps, resigned, resigned-wraps}
@@ -30,6 +31,12 @@ module _ (w : ℕ) {neg : Bool} where
   pub limit-top : {t : ℕ} → neg ≡ false → t ≡ 2 ^ w - 1 → t ≡ limit unsigned w neg
   unfolding limit
   limit-top t e = rw t e
+
+-- the signed limits, one below the other
+pub limit-half : (w : ℕ) (neg : Bool) → (neg ≡ true → limit signed w neg ≡ 2 ^ (w - 1)) × (neg ≡ false → limit signed w neg < 2 ^ (w - 1)) × (limit signed w neg ≤ 2 ^ (w - 1))
+unfolding limit
+limit-half w true = (λ t. refl, λ t. absurd (true≢false t), omega arith)
+limit-half w false = (λ t. absurd (true≢false (sym t)), λ t. omega (arith, pow_pos (w - 1)), omega arith)
 
 -- a magnitude held to the signed limit fits a signed word
 pub held_fits : (w : ℕ) (neg : Bool) {l held : ℕ} → is_width w ≡ true → l ≡ limit signed w neg → held ≤ l → SFits w64 (with_sign neg held)

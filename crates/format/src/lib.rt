@@ -1,14 +1,21 @@
 // Formats, manners and answers, and `settle`: an exact number into a format in a manner.
 #![tactic(auto)]
 
-mod place;
-pub mod signed;
-pub mod unsigned;
+ghost use Rattle.std.specs.Prelude.{◌≡◌, true, ◌≤◌};
+ghost use Rattle.format.specs.Meaning.{settle, exact, answered, wrap};
+ghost use Rattle.format.specs.Promise.{IsWidth, Check, Settle};
 
-ghost use Rattle.format.specs.Promise.{Check, IsWidth};
+mod place;
+pub mod raw;
+pub mod refusal;
+pub mod shape;
+
+pub use raw::Raw;
+pub use refusal::Refusal;
+pub use shape::Format;
 
 // How a result that may not fit is answered (01, "Domain and numbers").
-#[derive(Clone, Copy)]
+#[derive(Clone, Copy, Debug, PartialEq, Eq)]
 pub enum Manner {
     Strict,
     Saturating,
@@ -16,52 +23,86 @@ pub enum Manner {
     Overflowing,
 }
 
-// An answer in a signed format: the raw with its flag, or the number of the refusal.
-#[derive(Clone, Copy)]
-pub enum SignedAnswer {
-    Done { raw: i64, flag: bool },
-    Refused(u32),
+// An answer that is no refusal: the raw with its flag. Counts and patterns are answered so too, with the flag clear.
+#[derive(Clone, Copy, Debug, PartialEq, Eq)]
+pub struct Answer<R> {
+    pub raw: R,
+    pub flag: bool,
 }
 
-// The same in an unsigned format. Counts and patterns are answered so too, with the flag clear.
-#[derive(Clone, Copy)]
-pub enum UnsignedAnswer {
-    Done { raw: u64, flag: bool },
-    Refused(u32),
+// What a public function answers: an answer, or the refusal.
+pub type Answered<R> = Result<Answer<R>, Refusal>;
+
+// A whole number before it is in a format: its sign, and its magnitude as two words.
+#[derive(Clone, Copy, Debug, PartialEq, Eq)]
+pub struct Exact {
+    pub neg: bool,
+    pub high: u64,
+    pub low: u64,
 }
 
-// The refusals that every call with a format shares.
-pub const WRONG_WIDTH: u32 = 1;
-
-pub const WRONG_FRAC: u32 = 2;
-
-pub const OVERFLOW: u32 = 10;
-
-// 0 for a format; else the refusal: 1 for the width, then 2 for the fraction bits.
-pub fn check(width: u32, frac: u32) -> u32
+// Whether there is such a format: 1 where the width is none of the four, then 2 where the fraction bits are above it.
+pub fn check(width: u32, frac: u32) -> Result<(), Refusal>
     ensures { Check width frac result }
 {
-    if is_width(width) {
-        if frac <= width {
-            return 0;
-        }
-        return WRONG_FRAC;
+    if !is_width(width) {
+        return Err(Refusal::WrongWidth);
     }
-    WRONG_WIDTH
+    if width < frac {
+        return Err(Refusal::WrongFrac);
+    }
+    Ok(())
 }
 
 // Whether a width is one of the four.
 pub fn is_width(width: u32) -> bool
     ensures { IsWidth width result }
 {
-    if width == 8 {
-        return true;
+    matches!(width, 8 | 16 | 32 | 64)
+}
+
+// The number into the format, in the manner; 1 or 2 where the format is none.
+pub fn settle<R: Raw>(x: Exact, width: u32, frac: u32, manner: Manner) -> Answered<R>
+    ensures { Settle R.kind x.neg x.high x.low width frac manner result }
+{
+    let format = Format::new(width, frac)?;
+    fit(x, format, manner)
+}
+
+// The same where the format is known to be one.
+pub fn fit<R: Raw>(x: Exact, format: Format, manner: Manner) -> Answered<R>
+    ensures { result ≡ answered R.kind (settle manner R.kind.sign format.width (exact x.neg x.high x.low)) }
+{
+    let end = R::end(x.neg, format);
+    let within = place::within(x.high, x.low, end);
+    match manner {
+        Manner::Strict => {
+            let size = within.ok_or(Refusal::Overflow)?;
+            Ok(Answer {
+                raw: R::with_sign(x.neg, size, format),
+                flag: false,
+            })
+        }
+        Manner::Saturating => {
+            let size = within.unwrap_or(end);
+            Ok(Answer {
+                raw: R::with_sign(x.neg, size, format),
+                flag: false,
+            })
+        }
+        Manner::Wrapping => Ok(Answer {
+            raw: wrapped(x, format),
+            flag: false,
+        }),
+        Manner::Overflowing => Ok(Answer {
+            raw: wrapped(x, format),
+            flag: within.is_none(),
+        }),
     }
-    if width == 16 {
-        return true;
-    }
-    if width == 32 {
-        return true;
-    }
-    width == 64
+}
+
+fn wrapped<R: Raw>(x: Exact, format: Format) -> R
+    ensures { result ≡ R.kind.raw_of (wrap R.kind.sign format.width (exact x.neg x.high x.low)) }
+{
+    R::of_residue(place::residue(x.neg, x.low, format), format)
 }

@@ -2,7 +2,7 @@
 -- `from-as` says that this is the meaning. Assumes nothing.
 use Rattle.std.specs.Prelude.{◌≡◌, Bool, cond, ℕ, ◌-◌, ◌^◌, ◌≤◌, ℤ}
 use Rattle.std.proofs.Math.Path.{refl, sym}
-use Rattle.std.proofs.Common.{ap, ◌∙◌, arith}
+use Rattle.std.proofs.Common.{ap, ◌∙◌, subst, arith}
 use Rattle.std.proofs.Math.Bool.{true, false}
 use Rattle.std.proofs.Math.Dec.{eqb}
 use borrow.Author.Tests.{eqb-true, eqb-false, eq-eqb, ne_eqb}
@@ -10,6 +10,8 @@ use Rattle.wide.specs.declared.Wide.{Wide}
 use Rattle.format.specs.declared.Manner.{Manner}
 use Rattle.format.specs.declared.Manner.TheVariants.{Strict, Saturating, Wrapping, Overflowing}
 use Rattle.format.specs.Meaning.{Sign, is_width, settle, unless, fault_of, with_sign, exact, done, refused, guarded}
+use Rattle.format.specs.declared.refusal.Refusal.{Refusal}
+use Rattle.format.specs.Checked.{Opens, Refuses}
 use Rattle.format.specs.Fault.{fault-free, width-bounds}
 use Rattle.format.specs.Settle.{unless-fault, unless-none}
 use Rattle.format.proofs.Far.{far-end}
@@ -138,3 +140,16 @@ module _ (b : Binary) (x : ℕ) {e l : ℕ} (exponent : e ≡ biased b x) (end :
   pub fault-none : (k : Manner) → (e ≡ l → ⊥) → 0 ≡ pattern_fault b k x
   unfolding pattern_fault
   fault-none k h = simp (before-end b x exponent end h)
+
+-- ---- so, in the format that was let through, the check of the pattern refuses as the meaning does, and what it lets through is settled
+module _ (b : Binary) (k : Manner) (w f x : ℕ) {v g : ℕ} (o : Opens (fault_of w f) w f v g) where
+  whole-pattern : pattern_fault b k x ≡ whole_fault b k w f x
+  whole-pattern = whole-second b k w f x refl o.free refl
+
+  pub refuses-pattern : {e : Refusal} → Refuses (pattern_fault b k x) e → Refuses (whole_fault b k w f x) e
+  refuses-pattern {e} r = subst (λ (n : ℕ). Refuses n e) whole-pattern r
+
+  pub from-opened : (s : Sign) {neg : Bool} {r : Wide} → pattern_fault b k x ≡ 0 → neg ≡ negative b x → Folds (magnitude_of b g x) r
+      → settle k s v (exact neg r.high r.low) ≡ from_float_of b k s w f x
+  from-opened s {r = r} z n folds =
+      rw o.width_is (from-done b k w f x whole-pattern s {r = r} z n (subst (λ (g : ℕ). Folds (magnitude_of b g x) r) o.frac_is folds))

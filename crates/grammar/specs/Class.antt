@@ -1,8 +1,7 @@
 -- The classes of bytes as the code tells them apart, and that a digit has none of them. Assumes nothing.
-use Rattle.std.specs.Prelude.{◌≡◌, refl, Bool, true, false, cond, ◌||◌, not, ◌⊎◌, ℕ, ◌-◌, ◌≤◌, ◌<◌, eqb}
-use Rattle.std.proofs.Math.Path.{sym}
-use Rattle.std.proofs.Common.{◌∙◌, inl, inr, arith}
-use Rattle.std.proofs.Math.Bool.{or-false, and-false}
+use Rattle.std.specs.Prelude.{◌≡◌, refl, Bool, true, false, cond, ◌||◌, ◌⊎◌, Option, Some, None, ℕ, ◌-◌, ◌≤◌, ◌<◌, eqb}
+use Rattle.std.proofs.Common.{inl, inr, arith}
+use Rattle.std.proofs.Math.Bool.{and-false}
 use Rattle.std.proofs.lemmas.Bool.{false≢true}
 use Rattle.std.proofs.Math.Decide.{dec_le}
 use borrow.Author.Tests.{le-leb, lt-leb, ne_eqb, ltb-true, eqb-true}
@@ -10,6 +9,13 @@ use Rattle.grammar.specs.declared.byte.Class.{Class}
 use Rattle.grammar.specs.declared.byte.Class.TheVariants.{Sign, Point, Underscore, Mark, Other}
 use Rattle.grammar.specs.Meaning.{digit_of, is_sign, is_mark, is_radix}
 use Rattle.grammar.specs.Automaton.{is_digit, base_of}
+
+-- a byte as a digit of a radix, and what a mark of a radix scales by
+unfoldable pub digit : ℕ → ℕ → Option ℕ
+digit radix b = cond (is_digit radix b) (Some (digit_of b)) None
+
+unfoldable pub mark_base : ℕ → ℕ → Option ℕ
+mark_base radix b = cond (is_mark radix b) (Some (base_of radix b)) None
 
 unfoldable pub class_of : ℕ → ℕ → Class
 class_of radix b =
@@ -57,26 +63,6 @@ module _ (b : ℕ) where
         lt-leb b 70
             (omega arith),
       )
-
--- `e` and `E`: the disjuncts after theirs are false
-module _ (radix b : ℕ) where
-  pub mark-lower : b ≡ 101 → not (eqb radix 16) ≡ is_mark radix b
-  unfolding is_mark
-  mark-lower e = rw e (sym (or-false (not (eqb radix 16))))
-
-  pub mark-upper : b ≡ 69 → not (eqb radix 16) ≡ is_mark radix b
-  unfolding is_mark
-  mark-upper e = rw e (sym (or-false (not (eqb radix 16))))
-
--- the classes that a call decides
-module _ (radix b : ℕ) {m : Bool} (p : b ≡ 43 → ⊥) (n : b ≡ 45 → ⊥) (d : b ≡ 46 → ⊥) (u : b ≡ 95 → ⊥) (e : m ≡ is_mark radix b) where
-  pub class-mark : {base : ℕ} → m ≡ true → base ≡ base_of radix b → Mark base ≡ class_of radix b
-  unfolding class_of
-  class-mark t q = simp (ne_eqb b 43 p, ne_eqb b 45 n, ne_eqb b 46 d, ne_eqb b 95 u, sym e ∙ t, q)
-
-  pub class-other : m ≡ false → Other ≡ class_of radix b
-  unfolding class_of
-  class-other t = simp (ne_eqb b 43 p, ne_eqb b 45 n, ne_eqb b 46 d, ne_eqb b 95 u, sym e ∙ t)
 
 -- ---- a digit of a radix is no sign, no point, no `_` and no mark of that radix
 pub record Plain (radix b : ℕ) : Type 0 where

@@ -1,8 +1,8 @@
 // What a byte is to the scanner (docs/GRAMMAR.md, "Classes of bytes").
-ghost use Rattle.std.specs.Prelude.{◌≡◌, ◌<◌};
-ghost use Rattle.grammar.specs.Meaning.{digit_of, is_mark};
-ghost use Rattle.grammar.specs.Automaton.{is_digit, base_of};
-ghost use Rattle.grammar.specs.Class.{class_of};
+ghost use Rattle.std.specs.Prelude.{◌≡◌};
+ghost use Rattle.grammar.specs.Meaning.{digit_of};
+ghost use Rattle.grammar.specs.Automaton.{is_digit};
+ghost use Rattle.grammar.specs.Class.{digit, mark_base, class_of};
 
 // A byte in front of which a run of digits ends. A mark comes with what it scales by.
 #[derive(Clone, Copy)]
@@ -14,96 +14,61 @@ pub enum Class {
     Other,
 }
 
-// The value of a byte as a digit, 16 where it is none.
+// The value of a byte as a digit, 16 where it is none. No Option: `fold` takes any byte by it, as the meaning does
+// (`digit_of`); what may be no digit goes through `digit`.
+#[tactic(auto, using(laws::specs::Rules::tests), unfolding(crate::specs::Meaning::digit_of))]
 pub fn digit_of(b: u8) -> u32
     ensures { result ≡ digit_of b }
 {
-    if b < 48 {
-        return 16;
+    match b {
+        b'0'..=b'9' => (b - b'0') as u32,
+        b'A'..=b'F' => (b - b'A' + 10) as u32,
+        b'a'..=b'f' => (b - b'a' + 10) as u32,
+        _ => 16,
     }
-    if b <= 57 {
-        return (b - 48) as u32;
-    }
-    letter_of(b)
 }
 
-fn letter_of(b: u8) -> u32
-    requires { 57 < b }
-    ensures { result ≡ digit_of b }
+// A byte as a digit of a radix.
+#[tactic(auto, using(laws::specs::Rules::tests), unfolding(crate::specs::Class::digit))]
+pub fn digit(b: u8, radix: u32) -> Option<u32>
+    ensures { result ≡ digit radix b }
 {
-    if b < 65 {
-        return 16;
-    }
-    if b <= 70 {
-        return (b - 55) as u32;
-    }
-    if b < 97 {
-        return 16;
-    }
-    if b <= 102 {
-        return (b - 87) as u32;
-    }
-    16
+    let d = digit_of(b);
+    if d < radix { Some(d) } else { None }
 }
 
+#[tactic(auto, unfolding(crate::specs::Class::digit))]
 pub fn is_digit(b: u8, radix: u32) -> bool
     ensures { result ≡ is_digit radix b }
 {
-    digit_of(b) < radix
+    digit(b, radix).is_some()
 }
 
-fn is_mark(b: u8, radix: u32) -> bool
-    ensures { result ≡ is_mark radix b }
+// What a mark of the radix scales by: `p` and `P` by 2, the others by the radix.
+#[tactic(auto, unfolding(crate::specs::Class::mark_base, crate::specs::Meaning::is_mark))]
+fn mark_base(b: u8, radix: u32) -> Option<u32>
+    ensures { result ≡ mark_base radix b }
 {
-    if b == 64 {
-        return true;
+    match b {
+        b'@' => Some(radix),
+        b'e' | b'E' if radix != 16 => Some(radix),
+        b'p' | b'P' if radix != 10 => Some(2),
+        _ => None,
     }
-    if b == 101 {
-        return radix != 16;
-    }
-    if b == 69 {
-        return radix != 16;
-    }
-    if b == 112 {
-        return radix != 10;
-    }
-    if b == 80 {
-        return radix != 10;
-    }
-    false
 }
 
 // The class of a byte that is no digit of the run before it.
+#[tactic(auto, unfolding(crate::specs::Class::class_of, crate::specs::Class::mark_base))]
 pub fn class_of(b: u8, radix: u32) -> Class
     ensures { result ≡ class_of radix b }
 {
-    if b == 43 {
-        return Class::Sign;
+    match b {
+        b'+' | b'-' => Class::Sign,
+        b'.' => Class::Point,
+        b'_' => Class::Underscore,
+        _ => match mark_base(b, radix) {
+            Some(base) => Class::Mark(base),
+            None => Class::Other,
+        },
     }
-    if b == 45 {
-        return Class::Sign;
-    }
-    if b == 46 {
-        return Class::Point;
-    }
-    if b == 95 {
-        return Class::Underscore;
-    }
-    if is_mark(b, radix) {
-        return Class::Mark(base_of(b, radix));
-    }
-    Class::Other
-}
-
-// `p` and `P` scale by 2, the other marks by the radix.
-fn base_of(b: u8, radix: u32) -> u32
-    ensures { result ≡ base_of radix b }
-{
-    if b == 112 {
-        return 2;
-    }
-    if b == 80 {
-        return 2;
-    }
-    radix
 }

@@ -1,6 +1,6 @@
 -- What is known where nothing is refused, and the verdict as the code has it: the filter's level on a line that starts with the driving samples.
 -- Assumes nothing.
-use Rattle.std.specs.Prelude.{◌≡◌, Bool, true, false, List, ℕ, ◌≤◌, ℤ, length, take}
+use Rattle.std.specs.Prelude.{◌≡◌, Bool, true, false, List, ℕ, ◌≤◌, ℤ, length, take, Option, None, Some}
 use Rattle.filter.specs.Meaning.{most_taps, level_of, taps_fault}
 use Rattle.filter.specs.Refuse.{taps-few, same_then}
 use Rattle.filter.specs.Sum.{sum-take}
@@ -14,6 +14,12 @@ unfolding head_fault
 head-fit n places h =
     let a = same_then n places (taps_fault n) h in
     (a.0, taps-few n a.1)
+
+-- 01's number of a verdict
+abbrev pub verdict_number : Option Way → ℕ
+verdict_number None = 0
+verdict_number (Some High) = 1
+verdict_number (Some Low) = 2
 
 -- the test of the level is the test of the meaning
 pub test-way : (way : Way) (taps line : List ℤ) (y : ℤ) (t : Bool) → y ≡ level_of taps line → take (length taps) line ≡ driving way taps → passes way y ≡ t

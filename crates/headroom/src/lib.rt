@@ -7,6 +7,7 @@ ghost use Rattle.headroom.specs.Promise.{Heads};
 mod fault;
 mod peak;
 
+use filter::taps::Taps;
 use format::UnsignedAnswer;
 
 // Whether any samples can make these taps clip: the verdict, and with 1 or 2 the samples that do, newest first.
@@ -18,7 +19,7 @@ pub fn headroom(taps: &[i16], witness: &mut [i16]) -> UnsignedAnswer
         return UnsignedAnswer::Refused(fault);
     }
     UnsignedAnswer::Done {
-        raw: peak::verdict(taps, witness),
+        raw: peak::number(peak::verdict(&Taps::new(taps), witness)),
         flag: false,
     }
 }

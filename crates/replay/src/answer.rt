@@ -1,37 +1,26 @@
-// An answer of the library against the one that a line stores: 1 where they differ, else 0.
-use format::{SignedAnswer, UnsignedAnswer};
+// An answer of the library against the one that a line stores.
+use crate::line::Number;
+use format::{Answered, Raw};
 
-// Number, flag and value; of the value, 1 if it is below 0, and its magnitude.
-#[derive(Drop)]
+// Number and flag of an answer, and its value.
+#[derive(Clone, Copy)]
 pub(crate) struct Stored {
     pub number: u64,
     pub flag: u64,
-    pub below: u64,
-    pub size: u64,
+    pub value: Number,
 }
 
-pub(crate) fn signed(stored: Stored, answer: SignedAnswer) -> u64 {
-    match answer {
-        SignedAnswer::Done { raw, flag } => {
-            other(stored, 0, flag, raw < 0, format::signed::magnitude(raw))
-        }
-        SignedAnswer::Refused(number) => other(stored, number, false, false, 0),
-    }
-}
-
-pub(crate) fn unsigned(stored: Stored, answer: UnsignedAnswer) -> u64 {
-    match answer {
-        UnsignedAnswer::Done { raw, flag } => other(stored, 0, flag, false, raw),
-        UnsignedAnswer::Refused(number) => other(stored, number, false, false, 0),
+// Whether the answer is another.
+pub(crate) fn differs<R: Raw>(stored: Stored, answered: Answered<R>) -> bool {
+    match answered {
+        Ok(answer) => other(stored, 0, answer.flag, answer.raw.is_below(), answer.raw.magnitude()),
+        Err(refusal) => other(stored, refusal.number(), false, false, 0),
     }
 }
 
-fn other(stored: Stored, number: u32, flag: bool, below: bool, size: u64) -> u64 {
-    if stored.number != number as u64 || stored.flag != flag as u64 {
-        return 1;
-    }
-    if stored.below != below as u64 || stored.size != size {
-        return 1;
-    }
-    0
+fn other(stored: Stored, number: u32, flag: bool, below: bool, size: u64) -> bool {
+    stored.number != u64::from(number)
+        || stored.flag != u64::from(flag)
+        || stored.value.below != below
+        || stored.value.size != size
 }

@@ -1,49 +1,56 @@
 // The text of a line, two hexadecimal digits a byte.
+ghost use Rattle.std.specs.Prelude.{◌≤◌};
 
-// The room's: a little more than the longest text that is read, so that a longer one can be stored.
-const DIGITS: u64 = 8200;
+// A little more than the longest text that is read, so that a longer one can be stored.
+const ROOM: usize = 4100;
 
-// One more digit; how many there are now. An empty text is a `-`, which is none.
-pub(crate) fn put(text: &mut [u8; 4100], digits: u64, b: u8) -> u64 {
-    if b == b'-' {
-        return digits;
-    }
-    if digits < DIGITS {
-        let at = (digits / 2) as usize;
-        text[at] = joined(digits % 2, text[at], value(b));
-        return digits + 1;
-    }
-    digits
+#[derive(Drop)]
+pub(crate) struct Text {
+    bytes: [u8; ROOM],
+    digits: usize,
+    ghost inside: { digits ≤ 8200 },
 }
 
-// The first digit of a byte stands alone, the second joins it.
-fn joined(second: u64, high: u8, low: u8) -> u8 {
-    if second == 1 {
-        return pair(high, low);
+impl Text {
+    pub(crate) fn new() -> Text {
+        Text {
+            bytes: [0; ROOM],
+            digits: 0,
+        }
     }
-    low
+
+    pub(crate) fn clear(&mut self) {
+        self.digits = 0;
+    }
+
+    // One more digit. An empty text is a `-`, which is none.
+    pub(crate) fn put(&mut self, b: u8) {
+        if b == b'-' || self.digits >= 2 * ROOM {
+            return;
+        }
+        let at = self.digits / 2;
+        // The first digit of a byte stands alone, the second joins it.
+        self.bytes[at] = if self.digits % 2 == 1 {
+            pair(self.bytes[at], value(b))
+        } else {
+            value(b)
+        };
+        self.digits += 1;
+    }
+
+    pub(crate) fn bytes(&self) -> &[u8] {
+        &self.bytes[..self.digits / 2]
+    }
 }
 
 fn pair(high: u8, low: u8) -> u8 {
-    if high < 16 {
-        if low < 16 {
-            return high * 16 + low;
-        }
-    }
-    0
+    if high < 16 && low < 16 { high * 16 + low } else { 0 }
 }
 
 fn value(b: u8) -> u8 {
-    if b >= b'0' && b <= b'9' {
-        return b - b'0';
+    match b {
+        b'0'..=b'9' => b - b'0',
+        b'a'..=b'f' => b - b'a' + 10,
+        _ => 0,
     }
-    if b >= b'a' && b <= b'f' {
-        return b - b'a' + 10;
-    }
-    0
-}
-
-// The bytes that so many digits are.
-pub(crate) fn bytes(digits: u64) -> usize {
-    (digits / 2) as usize
 }

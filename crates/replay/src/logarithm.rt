@@ -1,50 +1,43 @@
 // The question of the logarithm: kind g.
+use crate::answer;
 use crate::answer::Stored;
-use crate::{answer, fields};
-use format::{Manner, SignedAnswer};
+use crate::line::{FRAC, Line, SIGNED, WIDTH};
+use format::{Exact, Manner};
 
 // The fields after the format.
-const NUMBER: usize = 4;
+const NUMBER: usize = 3;
 
-const VALUE: usize = 5;
+const VALUE: usize = 4;
 
-const RAW: usize = 6;
-
-pub(crate) fn log10(line: &[u64; 20]) -> u64 {
-    match line[fields::SIGNED] {
-        0 => unsigned(line),
-        1 => signed(line),
-        _ => 1,
-    }
-}
-
-fn unsigned(line: &[u64; 20]) -> u64 {
-    let width = fields::small(line[fields::WIDTH]);
-    let frac = fields::small(line[fields::FRAC]);
-    answer::signed(stored(line), log10::unsigned::log10(line[RAW], width, frac))
-}
+const RAW: usize = 5;
 
 // A raw that is no signed word has no answer.
-fn signed(line: &[u64; 20]) -> u64 {
-    let below = line[RAW + fields::BELOW] == 1;
-    match format::signed::settle(below, 0, line[RAW], 64, 0, Manner::Strict) {
-        SignedAnswer::Done { raw, flag: _ } => signed_raw(line, raw),
-        SignedAnswer::Refused(_) => 1,
+pub(crate) fn log10(line: &Line) -> bool {
+    let width = line.numbers[WIDTH].small();
+    let frac = line.numbers[FRAC].small();
+    let raw = line.numbers[RAW];
+    match line.numbers[SIGNED].size {
+        0 => answer::differs(stored(line), log10::log10(raw.size, width, frac)),
+        1 => {
+            let x = Exact {
+                neg: raw.below,
+                high: 0,
+                low: raw.size,
+            };
+            match format::settle::<i64>(x, 64, 0, Manner::Strict) {
+                Ok(word) => answer::differs(stored(line), log10::log10(word.raw, width, frac)),
+                Err(_) => true,
+            }
+        }
+        _ => true,
     }
-}
-
-fn signed_raw(line: &[u64; 20], raw: i64) -> u64 {
-    let width = fields::small(line[fields::WIDTH]);
-    let frac = fields::small(line[fields::FRAC]);
-    answer::signed(stored(line), log10::signed::log10(raw, width, frac))
 }
 
 // No flag is stored: a logarithm has none set.
-fn stored(line: &[u64; 20]) -> Stored {
+fn stored(line: &Line) -> Stored {
     Stored {
-        number: line[NUMBER],
+        number: line.numbers[NUMBER].size,
         flag: 0,
-        below: line[VALUE + fields::BELOW],
-        size: line[VALUE],
+        value: line.numbers[VALUE],
     }
 }

@@ -4,19 +4,19 @@
 
 mod answer;
 mod asked;
-mod fields;
 mod hex;
+mod line;
 mod logarithm;
 mod reader;
 
-use std::io;
+use line::Line;
 use std::io::Read;
 use std::rt::Files;
+use std::{fs, io};
 
-// Where the walk stands: the field of the line; and what the lines before it told.
-#[derive(Drop)]
-struct Place {
-    field: usize,
+// What the lines told so far.
+#[derive(Clone, Copy)]
+struct Tally {
     answers: u64,
     differ: u64,
 }
@@ -30,7 +30,7 @@ fn main(rt: HostRuntime) -> io::Result<()> {
 }
 
 fn replay(rt: &(impl Files + Print), name: &str) -> io::Result<()> {
-    let mut file = std::fs::open(rt, name)?.take(LIMIT);
+    let mut file = fs::open(rt, name)?.take(LIMIT);
     let end = whole(&mut file)?;
     println!(rt;
         "{name}: {} answers replayed, {} differ",
@@ -39,11 +39,9 @@ fn replay(rt: &(impl Files + Print), name: &str) -> io::Result<()> {
 }
 
 // A piece of the file after another, to its end.
-fn whole(file: &mut impl Read) -> io::Result<Place> {
-    let mut line = [0u64; 20];
-    let mut text = [0u8; 4100];
-    let mut place = Place {
-        field: fields::KIND,
+fn whole(file: &mut impl Read) -> io::Result<Tally> {
+    let mut line = Line::new();
+    let mut tally = Tally {
         answers: 0,
         differ: 0,
     };
@@ -53,43 +51,23 @@ fn whole(file: &mut impl Read) -> io::Result<Place> {
         if n == 0 {
             break;
         }
-        place = walk(&piece[..n], &mut line, &mut text, place);
+        for b in &piece[..n] {
+            step(*b, &mut line, &mut tally);
+        }
     }
-    Ok(place)
+    Ok(tally)
 }
 
-fn walk(bytes: &[u8], line: &mut [u64; 20], text: &mut [u8; 4100], place: Place) -> Place {
-    let mut at = place;
-    for b in bytes {
-        at = step(*b, line, text, at);
-    }
-    at
-}
-
-fn step(b: u8, line: &mut [u64; 20], text: &mut [u8; 4100], at: Place) -> Place {
-    if b == b'\n' {
-        return end_of_line(line, text, at);
-    }
-    if b == b' ' {
-        return Place {
-            field: fields::next(at.field),
-            answers: at.answers,
-            differ: at.differ,
-        };
-    }
-    fields::put(line, text, at.field, b);
-    at
-}
-
-// Asks what the line asks, and makes room for the next. The counts wrap only in name: no file has
+// At the end of a line asks what it asks, and makes room for the next. The counts wrap only in name: no file has
 // as many lines as a word has numbers.
-fn end_of_line(line: &mut [u64; 20], text: &[u8; 4100], at: Place) -> Place {
-    let told = asked::told(line);
-    let differs = asked::differs(line, text);
-    fields::clear(line);
-    Place {
-        field: fields::KIND,
-        answers: at.answers.wrapping_add(told),
-        differ: at.differ.wrapping_add(differs),
+fn step(b: u8, line: &mut Line, tally: &mut Tally) {
+    match b {
+        b'\n' => {
+            tally.answers = tally.answers.wrapping_add(u64::from(asked::told(line)));
+            tally.differ = tally.differ.wrapping_add(u64::from(asked::differs(line)));
+            line.clear();
+        }
+        b' ' => line.next(),
+        _ => line.put(b),
     }
 }

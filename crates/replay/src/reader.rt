@@ -1,57 +1,50 @@
 // The questions to the readers: kinds p, a plain text, and l, a literal.
+use crate::answer;
 use crate::answer::Stored;
-use crate::{answer, fields};
+use crate::line::{FRAC, Line, SIGNED, WIDTH};
 use format::Manner;
 
 // The fields between the format and the text.
-const RADIX: usize = 4;
+const RADIX: usize = 3;
 
-const MANNER: usize = 5;
+const MANNER: usize = 4;
 
-const NUMBER: usize = 6;
+const NUMBER: usize = 5;
 
-const FLAG: usize = 7;
+const FLAG: usize = 6;
 
-const VALUE: usize = 8;
+const VALUE: usize = 7;
 
-pub(crate) fn plain(line: &[u64; 20], text: &[u8]) -> u64 {
-    let width = fields::small(line[fields::WIDTH]);
-    let frac = fields::small(line[fields::FRAC]);
-    let radix = fields::small(line[RADIX]);
-    let manner = manner(line[MANNER]);
-    match line[fields::SIGNED] {
-        0 => answer::unsigned(
-            stored(line),
-            text::unsigned::read(text, width, frac, radix, manner),
-        ),
-        1 => answer::signed(
-            stored(line),
-            text::signed::read(text, width, frac, radix, manner),
-        ),
-        _ => 1,
+pub(crate) fn plain(line: &Line) -> bool {
+    let text = line.text.bytes();
+    let width = line.numbers[WIDTH].small();
+    let frac = line.numbers[FRAC].small();
+    let radix = line.numbers[RADIX].small();
+    let manner = manner(line.numbers[MANNER].size);
+    match line.numbers[SIGNED].size {
+        0 => answer::differs(stored(line), text::read::<u64>(text, width, frac, radix, manner)),
+        1 => answer::differs(stored(line), text::read::<i64>(text, width, frac, radix, manner)),
+        _ => true,
     }
 }
 
 // A literal has its radix within it, and is read in one manner.
-pub(crate) fn literal(line: &[u64; 20], text: &[u8]) -> u64 {
-    let width = fields::small(line[fields::WIDTH]);
-    let frac = fields::small(line[fields::FRAC]);
-    match line[fields::SIGNED] {
-        0 => answer::unsigned(
-            stored(line),
-            text::unsigned::read_literal(text, width, frac),
-        ),
-        1 => answer::signed(stored(line), text::signed::read_literal(text, width, frac)),
-        _ => 1,
+pub(crate) fn literal(line: &Line) -> bool {
+    let text = line.text.bytes();
+    let width = line.numbers[WIDTH].small();
+    let frac = line.numbers[FRAC].small();
+    match line.numbers[SIGNED].size {
+        0 => answer::differs(stored(line), text::read_literal::<u64>(text, width, frac)),
+        1 => answer::differs(stored(line), text::read_literal::<i64>(text, width, frac)),
+        _ => true,
     }
 }
 
-fn stored(line: &[u64; 20]) -> Stored {
+fn stored(line: &Line) -> Stored {
     Stored {
-        number: line[NUMBER],
-        flag: line[FLAG],
-        below: line[VALUE + fields::BELOW],
-        size: line[VALUE],
+        number: line.numbers[NUMBER].size,
+        flag: line.numbers[FLAG].size,
+        value: line.numbers[VALUE],
     }
 }
 

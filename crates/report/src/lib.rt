@@ -11,7 +11,7 @@ mod verdict;
 ghost use Rattle.std.specs.Prelude.{◌≤◌, length};
 
 use filter::TAPS;
-use fitting::FileAnswer;
+use fitting::FileRefusal;
 use std::io::{ErrorKind, Read};
 use std::rt::Files;
 use std::{fs, io};
@@ -92,26 +92,16 @@ pub fn bytes(rt: &impl Print, file: &[u8]) -> io::Result<()> {
     let mut raws = [0i16; TAPS];
     let mut answers = [0u32; TAPS];
     let mut taps = [0i16; TAPS];
-    let answer = fitting::read(
-        file,
-        &mut lines[..],
-        &mut raws[..],
-        &mut answers[..],
-        &mut taps[..],
-    );
-    match answer {
-        FileAnswer::Done { values } => good(rt, &lines[..], &taps[..], values),
-        FileAnswer::Refused(number) => refusal::whole(rt, number),
-        FileAnswer::Line { line: _, inner: _ } => {
-            refusal::lines(rt, file, &lines[..], &answers[..])
-        }
+    match fitting::read(file, &mut lines, &mut raws, &mut answers, &mut taps) {
+        Ok(values) => good(rt, &lines, &taps[..TAPS.min(values as usize)]),
+        Err(FileRefusal::Whole(refusal)) => refusal::whole(rt, refusal),
+        Err(FileRefusal::Line { .. }) => refusal::lines(rt, file, &lines, &answers),
     }
 }
 
 // Every tap, and the verdict on all of them.
-fn good(rt: &impl Print, lines: &[u32], taps: &[i16], values: u32) -> io::Result<()> {
-    let kept = out::upto(taps, values as usize);
-    taps::show(rt, lines, kept)?;
-    verdict::show(rt, kept)?;
+fn good(rt: &impl Print, lines: &[u32], taps: &[i16]) -> io::Result<()> {
+    taps::show(rt, lines, taps)?;
+    verdict::show(rt, taps)?;
     rt.println("ok")
 }

@@ -1,7 +1,4 @@
 // Pieces of a line on the standard output.
-ghost use Rattle.std.specs.Prelude.{◌≡◌, ◌≤◌};
-
-use format::UnsignedAnswer;
 use std::io;
 
 // The most bytes of a line of the file that are shown.
@@ -10,25 +7,13 @@ const SHOWN: usize = 80;
 // The longest text of the writer for I1F15 and for a sum.
 const LONGEST: usize = 67;
 
-// The lesser of two counts.
-pub(crate) fn least(a: usize, b: usize) -> usize
-    ensures at_most_a { result ≤ a }
-    ensures at_most_b { result ≤ b }
-{
-    if a < b {
-        return a;
-    }
-    b
-}
-
 // A raw, exactly, through the writer.
 pub(crate) fn value(rt: &impl Print, raw: i64, width: u32, frac: u32) -> io::Result<()> {
     let mut buf = [0u8; LONGEST];
-    let answer = decimal::signed::write(raw, width, frac, &mut buf[..]);
-    let UnsignedAnswer::Done { raw: n, flag: _ } = answer else {
-        return Ok(());
-    };
-    start(rt, &buf[..], n as usize)
+    match decimal::write(raw, width, frac, &mut buf) {
+        Ok(written) => start(rt, &buf, written.raw as usize),
+        Err(_) => Ok(()),
+    }
 }
 
 // The first n bytes.
@@ -37,21 +22,6 @@ fn start(rt: &impl Print, bytes: &[u8], n: usize) -> io::Result<()> {
         return rt.write_all(&bytes[..n]);
     }
     Ok(())
-}
-
-// A tap or a sample as a wider number.
-pub(crate) fn wide(x: i16) -> i64
-    ensures { result ≡ x }
-{
-    x as i64
-}
-
-// The first n of a list, or all of it.
-pub(crate) fn upto(list: &[i16], n: usize) -> &[i16] {
-    if n < list.len() {
-        return &list[..n];
-    }
-    list
 }
 
 // An entry of a list, 0 past its end.
@@ -79,11 +49,5 @@ fn byte(rt: &impl Print, b: u8) -> io::Result<()> {
 }
 
 fn plain(b: u8) -> bool {
-    if b < 32 {
-        return false;
-    }
-    if b > 126 {
-        return false;
-    }
-    b != b'\\'
+    matches!(b, b' '..=b'~') && b != b'\\'
 }

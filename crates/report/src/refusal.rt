@@ -1,5 +1,6 @@
 // What is wrong: the number of document 01's table, what it means, where, and what to do. The last line is `refused`.
 use super::{hint, out};
+use format::Refusal;
 use std::io;
 
 pub(crate) fn usage(rt: &impl Print) -> io::Result<()> {
@@ -22,16 +23,16 @@ pub(crate) fn unread(rt: &impl Print, name: &[u8]) -> io::Result<()> {
 }
 
 // The file as a whole is refused.
-pub(crate) fn whole(rt: &impl Print, number: u32) -> io::Result<()> {
-    println!(rt; "refused {number}: {}", file_fault(number))?;
+pub(crate) fn whole(rt: &impl Print, refusal: Refusal) -> io::Result<()> {
+    println!(rt; "refused {}: {}", refusal.number(), file_fault(refusal))?;
     end(rt)
 }
 
-fn file_fault(number: u32) -> &'static str {
-    match number {
-        4 => "the file is above 16384 bytes; give a fitting file, or take out comments",
-        40 => "the file holds no value; write one number on a line, such as 0.5",
-        41 =>
+fn file_fault(refusal: Refusal) -> &'static str {
+    match refusal {
+        Refusal::TooLong => "the file is above 16384 bytes; give a fitting file, or take out comments",
+        Refusal::WrongTaps => "the file holds no value; write one number on a line, such as 0.5",
+        Refusal::TooManyValues =>
             "the file holds more than 64 values; give a fitting file of at most 64 taps, one on a line",
         _ => "the list has too few places",
     }

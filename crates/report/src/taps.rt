@@ -26,6 +26,6 @@ pub(crate) fn samples(rt: &impl Print, list: &[i16]) -> io::Result<()> {
 
 fn level(rt: &impl Print, raw: i16) -> io::Result<()> {
     rt.print(": ")?;
-    out::value(rt, out::wide(raw), WIDTH, FRAC)?;
+    out::value(rt, i64::from(raw), WIDTH, FRAC)?;
     rt.println("")
 }

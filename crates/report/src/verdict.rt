@@ -1,7 +1,6 @@
 // The verdict in words with its number; where samples clip, such samples, newest first, and the sum that they reach.
 use super::{out, taps};
 use filter::TAPS;
-use format::{Manner, SignedAnswer, UnsignedAnswer};
 use std::io;
 
 // A product of two I1F15 numbers has 30 fraction bits.
@@ -11,21 +10,16 @@ const SUM_FRAC: u32 = 30;
 
 pub(crate) fn show(rt: &impl Print, taps: &[i16]) -> io::Result<()> {
     let mut witness = [0i16; TAPS];
-    let n = out::least(taps.len(), TAPS);
+    let n = TAPS.min(taps.len());
     judged(rt, taps, &mut witness[..n])
 }
 
 fn judged(rt: &impl Print, taps: &[i16], witness: &mut [i16]) -> io::Result<()> {
-    let answer = headroom::headroom(taps, witness);
-    let UnsignedAnswer::Done {
-        raw: verdict,
-        flag: _,
-    } = answer
-    else {
+    let Ok(verdict) = headroom::headroom(taps, witness) else {
         return Ok(());
     };
-    rt.println(in_words(verdict))?;
-    if verdict != 0 {
+    rt.println(in_words(verdict.raw))?;
+    if verdict.raw != 0 {
         driven(rt, taps, witness)?;
     }
     Ok(())
@@ -47,30 +41,11 @@ fn driven(rt: &impl Print, taps: &[i16], witness: &[i16]) -> io::Result<()> {
     rt.println("")
 }
 
-// The exact sum of the products.
+// The exact sum of the products: no sum of 64 of them comes near the ends of 64 bits.
 fn sum(taps: &[i16], samples: &[i16]) -> i64 {
-    let mut total = 0;
+    let mut total: i64 = 0;
     for (tap, sample) in taps.iter().zip(samples) {
-        total = plus(total, *tap, *sample);
+        total = total.saturating_add(i64::from(*tap) * i64::from(*sample));
     }
     total
-}
-
-// No sum of 64 products passes 64 bits, so none is refused.
-fn plus(total: i64, tap: i16, sample: i16) -> i64 {
-    let product = value(arith::signed::mul(
-        out::wide(tap),
-        out::wide(sample),
-        SUM_WIDTH,
-        0,
-        Manner::Strict,
-    ));
-    value(arith::signed::add(total, product, SUM_WIDTH, 0, Manner::Strict))
-}
-
-fn value(answer: SignedAnswer) -> i64 {
-    match answer {
-        SignedAnswer::Done { raw, flag: _ } => raw,
-        SignedAnswer::Refused(_) => 0,
-    }
 }

@@ -1,5 +1,5 @@
 -- The run of digits at a place of a text, and the loop that finds its end. Assumes nothing.
-use Rattle.std.specs.Prelude.{◌≡◌, refl, Bool, true, false, cond, List, [], ◌∷◌, ℕ, suc, ◌+◌, ◌-◌, ◌≤◌, ◌<◌, eqb, take, drop, get_or}
+use Rattle.std.specs.Prelude.{◌≡◌, refl, Bool, true, false, cond, List, [], ◌∷◌, ℕ, suc, ◌+◌, ◌-◌, ◌≤◌, ◌<◌, take, drop, get_or}
 use Rattle.std.proofs.Common.{sym, ◌∙◌, add-one, drop_of_length-le}
 use Rattle.std.proofs.Math.Path.{ap}
 use native.Mathlib.Omega.{arith}
@@ -21,17 +21,6 @@ run_at t from radix skip =
     }
 
 -- ---- the loop over a run
--- a byte that goes on in it, as the code finds it
-module _ (skip : Bool) (radix b : ℕ) {d : Bool} (e : d ≡ is_digit radix b) where
-  pub in-run-digit : d ≡ true → true ≡ in_run skip radix b
-  in-run-digit t = rw (sym e ∙ t)
-
-  pub in-run-under : d ≡ false → skip ≡ true → eqb b 95 ≡ in_run skip radix b
-  in-run-under t s = rw (sym e ∙ t, s)
-
-  pub in-run-none : d ≡ false → skip ≡ false → false ≡ in_run skip radix b
-  in-run-none t s = rw (sym e ∙ t, s)
-
 more-none : (skip : Bool) (radix : ℕ) → run_more skip radix [] ≡ 0
 unfolding run_more
 more-none skip radix = refl
@@ -106,3 +95,13 @@ module _ (t : List ℕ) (from radix : ℕ) (skip : Bool) where
 
   pub run_past : length t ≤ from → ◌≡◌ {A = Run} (record { from = from; to = from; digits = 0 }) (run_at t from radix skip)
   run_past h = empty-run (len-past h)
+
+-- a run is no longer than what there is
+pub len-fits : (skip : Bool) (radix : ℕ) (t : List ℕ) → run_len skip radix t ≤ length t
+unfolding run_len
+len-fits skip radix [] = omega arith
+len-fits skip radix (b ∷ t) = go (is_digit radix b)
+  where
+    go : (d : Bool) → cond d (suc (run_more skip radix t)) 0 ≤ length (b ∷ t)
+    go true = omega (arith, more-fits skip radix t)
+    go false = omega arith

@@ -20,13 +20,7 @@ pub struct Run {
 fn in_run(b: u8, radix: u32, skip: bool) -> bool
     ensures { result ≡ in_run skip radix b }
 {
-    if byte::is_digit(b, radix) {
-        return true;
-    }
-    if skip {
-        return b == 95;
-    }
-    false
+    byte::is_digit(b, radix) || skip && b == b'_'
 }
 
 // The end of a run whose first digit stands before `from`.
@@ -34,15 +28,12 @@ fn run_end(text: &[u8], from: usize, radix: u32, skip: bool) -> usize
     requires { from ≤ length text.now }
     ensures { result ≡ from + run_more skip radix (drop from text.now) }
 {
-    let mut i = from;
-    while i < text.len() {
-        if in_run(text[i], radix, skip) {
-            i += 1;
-        } else {
-            return i;
+    for (i, b) in text[from..].iter().enumerate() {
+        if !in_run(*b, radix, skip) {
+            return from + i;
         }
     }
-    i
+    text.len()
 }
 
 // The run at `from`, which has no digits where no digit stands there.

@@ -4,6 +4,8 @@ use Rattle.std.proofs.Math.Path.{refl, ap}
 use Rattle.std.proofs.Common.{sym, ◌∙◌, true≢false, arith}
 use Rattle.std.proofs.Math.Bool.{true, false}
 use Prim.Native.Nat.{ℕ, zero, suc}
+use Rattle.format.specs.declared.refusal.Refusal.TheVariants.{InvalidDigit, MisplacedUnderscore}
+use Rattle.format.specs.Meaning.{number as number_of}
 use Rattle.grammar.specs.Meaning.{is_sign, is_mark, Written, Reading, unread, with_base}
 use Rattle.grammar.specs.Automaton.{is_digit, base_of, whole, fraction, exponent, Seen, nothing, Scan, at}
 use Rattle.grammar.specs.Automaton.{refuse, step, scan, on_sign, on_point, on_underscore, on_mark, on_other}
@@ -108,10 +110,10 @@ module _ (skip : Bool) (radix b : ℕ) (t : List ℕ) (x : Written) where
   unfolding reading scan step on_point
   read-point q e = rw e
 
-pub under-skipped : {skip : Bool} → skip ≡ true → 14 ≡ under_number skip
-unfolding under_number
+pub under-skipped : {skip : Bool} → skip ≡ true → number_of MisplacedUnderscore ≡ under_number skip
+unfolding under_number number_of
 under-skipped s = rw s
 
-pub under-plain : {skip : Bool} → skip ≡ false → 13 ≡ under_number skip
-unfolding under_number
+pub under-plain : {skip : Bool} → skip ≡ false → number_of InvalidDigit ≡ under_number skip
+unfolding under_number number_of
 under-plain s = rw s

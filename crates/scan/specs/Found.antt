@@ -1,11 +1,15 @@
 -- What the scanner's answer stands for: the digits of its runs in the text. Assumes nothing.
-use Rattle.std.specs.Prelude.{◌≡◌, Bool, ◌&&◌, ℕ, suc, ◌+◌, ◌≤◌, ◌<◌, length, drop, get_or}
+use Rattle.std.specs.Prelude.{◌≡◌, Result, Ok, Err, Bool, ◌&&◌, ℕ, suc, ◌+◌, ◌-◌, ◌≤◌, ◌<◌, length, take, drop, get_or}
 use Rattle.std.proofs.Math.Path.{refl, sym, ap, ap₂, subst}
 use Rattle.std.proofs.Common.{◌∙◌, arith, add-one, drop_of_length-le, length-append, drop-cons, eq-eqb, ne_eqb, eqb-true}
 use Rattle.std.proofs.Math.Bool.{true, false, cond}
 use mathlib.Core.List.{List, ◌++◌}
-use Rattle.std.proofs.Math.Dec.{eqb}
-use Rattle.std.proofs.lemmas.Bool.{eqb-false}
+use Rattle.std.proofs.Math.Dec.{eqb, ltb}
+use Rattle.std.proofs.lemmas.Bool.{eqb-false, ltb-true, ltb-false}
+use Rattle.std.proofs.lemmas.List.{take_rest, get_or_default}
+use Rattle.format.specs.declared.refusal.Refusal.{Refusal}
+use Rattle.format.specs.declared.refusal.Refusal.TheVariants.{NoDigits, MisplacedSign, InvalidDigit, TooManyPoints, ExpNoDigits}
+use Rattle.format.specs.Meaning.{number as number_of}
 use Rattle.grammar.specs.Meaning.{is_sign, Written, Reading, number, unread, with_exp}
 use Rattle.grammar.specs.Automaton.{at, exponent, nothing, sign}
 use Rattle.grammar.specs.Reading.{reading, exp_at, exp_end, read-exp-end, read-refused, sign_first, read-exponent-sign, read-exponent-unsigned}
@@ -14,13 +18,13 @@ use Rattle.grammar.specs.Run.{sep_of, digit_values, body_of}
 use Rattle.grammar.specs.declared.byte.Class.{Class}
 use Rattle.grammar.specs.declared.byte.Class.TheVariants.{Sign, Point, Underscore, Mark, Other}
 use Rattle.run.specs.declared.Run.{Run}
-use Rattle.exponent.specs.Exponent.{exp_scan, exp_step_of, read-exp}
-use Rattle.exponent.specs.declared.ExpStep.{ExpStep}
-use Rattle.exponent.specs.declared.ExpStep.TheVariants.{On, Refuse}
+use Rattle.exponent.specs.Exponent.{ExpStep, exp_scan, exp_step_of, read-exp}
 use Rattle.scan.specs.After.{after_run, under_number}
 use Rattle.scan.specs.declared.Parsed.{Parsed}
-use Rattle.scan.specs.declared.Found.{Found}
-use Rattle.scan.specs.declared.Found.TheVariants.{Number, Refused}
+
+-- what the scanner finds: a number's places, or the refusal
+abbrev pub Found : Type 0
+Found = Result Parsed Refusal
 
 -- the digits of a run
 abbrev pub run_digits : List ℕ → Run → List ℕ
@@ -47,7 +51,7 @@ unfoldable pub no_digits : Parsed → Bool
 no_digits p = eqb p.whole.digits 0 && eqb p.frac.digits 0
 
 unfoldable pub unmarked_of : Parsed → Found
-unmarked_of p = cond (no_digits p) (Refused 11) (Number p)
+unmarked_of p = cond (no_digits p) (Err NoDigits) (Ok p)
 
 abbrev pub with_exponent : Parsed → ℕ → Parsed
 with_exponent p e = record { neg = p.neg; whole = p.whole; frac = p.frac; base = p.base; down = p.down; exp = e }
@@ -59,7 +63,7 @@ abbrev pub with_mark_base : Parsed → ℕ → Parsed
 with_mark_base p b = record { neg = p.neg; whole = p.whole; frac = p.frac; base = b; down = p.down; exp = p.exp }
 
 unfoldable pub exp_end_of : Parsed → Bool → ℕ → Found
-exp_end_of p seen e = cond (no_digits p) (Refused 11) (cond seen (Number (with_exponent p e)) (Refused 17))
+exp_end_of p seen e = cond (no_digits p) (Err NoDigits) (cond seen (Ok (with_exponent p e)) (Err ExpNoDigits))
 
 -- a run's count is that of its digits
 abbrev pub Counted : List ℕ → Run → Type 0
@@ -80,53 +84,31 @@ pub record Ready (t : List ℕ) (p : Parsed) : Type 0 where
 
 -- the answer is what the scan comes to, and its counts and its stretch are right
 pub data Finds (t : List ℕ) : Found → Reading → Type 0 where
-  finds : {p : Parsed} {y : Reading} → y ≡ number (written_of t p) → Ready t p → Finds t (Number p) y
-  refuses : {n : ℕ} {y : Reading} → y ≡ unread n → Finds t (Refused n) y
+  finds : {p : Parsed} {y : Reading} → y ≡ number (written_of t p) → Ready t p → Finds t (Ok p) y
+  refuses : {e : Refusal} {y : Reading} → y ≡ unread (number_of e) → Finds t (Err e) y
 
--- ---- the ends as the code finds them, g whether there are no digits
-module _ (p : Parsed) {g : Bool} (t : g ≡ no_digits p) where
-  pub unmarked-none : g ≡ true → Refused 11 ≡ unmarked_of p
-  unfolding unmarked_of
-  unmarked-none h = rw (sym t ∙ h)
-
-  pub unmarked-some : g ≡ false → Number p ≡ unmarked_of p
-  unfolding unmarked_of
-  unmarked-some h = rw (sym t ∙ h)
-
-  pub exp-end-none : (seen : Bool) (e : ℕ) → g ≡ true → Refused 11 ≡ exp_end_of p seen e
-  unfolding exp_end_of
-  exp-end-none seen e h = rw (sym t ∙ h)
-
-  pub exp-end-some : {seen : Bool} (e : ℕ) → g ≡ false → seen ≡ true → Number (with_exponent p e) ≡ exp_end_of p seen e
-  unfolding exp_end_of
-  exp-end-some e h s = rw (sym t ∙ h, s)
-
-  pub exp-end-bare : {seen : Bool} (e : ℕ) → g ≡ false → seen ≡ false → Refused 17 ≡ exp_end_of p seen e
-  unfolding exp_end_of
-  exp-end-bare e h s = rw (sym t ∙ h, s)
-
--- ---- what the scan makes of the exponent's bytes, w what the whole comes to
-module _ (skip : Bool) (radix : ℕ) (t : List ℕ) (i : ℕ) (x : Written) (seen : Bool) (e : ℕ) {w : Reading}
-    (inv : reading (sep_of skip) radix (drop i t) (exp_at seen x e) ≡ w) where
-  exp-more : i < length t → reading (sep_of skip) radix (drop (i + 1) t) (exp_scan (exp_step_of skip radix seen x.down e (get_or t i 0)) x) ≡ w
+-- ---- what the scan makes of the exponent's bytes, u the text behind the sign, w what the whole comes to
+module _ (skip : Bool) (radix : ℕ) (u : List ℕ) (i : ℕ) (x : Written) (seen : Bool) (e : ℕ) {w : Reading}
+    (inv : reading (sep_of skip) radix (drop i u) (exp_at seen x e) ≡ w) where
+  exp-more : i < length u → reading (sep_of skip) radix (drop (i + 1) u) (exp_scan (exp_step_of skip radix seen x.down e (get_or u i 0)) x) ≡ w
   exp-more h =
-      ap (λ (k : ℕ). reading (sep_of skip) radix (drop k t) (exp_scan (exp_step_of skip radix seen x.down e (get_or t i 0)) x)) (add-one i)
-      ∙ sym (read-exp skip radix (get_or t i 0) x e seen (drop (suc i) t))
-      ∙ ap (λ (l : List ℕ). reading (sep_of skip) radix l (exp_at seen x e)) (sym (drop-cons t i 0 h)) ∙ inv
+      ap (λ (k : ℕ). reading (sep_of skip) radix (drop k u) (exp_scan (exp_step_of skip radix seen x.down e (get_or u i 0)) x)) (add-one i)
+      ∙ sym (read-exp skip radix (get_or u i 0) x e seen (drop (suc i) u))
+      ∙ ap (λ (l : List ℕ). reading (sep_of skip) radix l (exp_at seen x e)) (sym (drop-cons u i 0 h)) ∙ inv
 
-  pub exp-next : {s : ExpStep} {v : ℕ} → i < length t → s ≡ exp_step_of skip radix seen x.down e (get_or t i 0) → s ≡ On v
-      → reading (sep_of skip) radix (drop (i + 1) t) (exp_at true x v) ≡ w
+  pub exp-next : {s : ExpStep} {v : ℕ} → i < length u → s ≡ exp_step_of skip radix seen x.down e (get_or u i 0) → s ≡ Ok v
+      → reading (sep_of skip) radix (drop (i + 1) u) (exp_at true x v) ≡ w
   unfolding exp_scan
-  exp-next h q g = ap (λ (s : ExpStep). reading (sep_of skip) radix (drop (i + 1) t) (exp_scan s x)) (sym g ∙ q) ∙ exp-more h
+  exp-next h q g = ap (λ (s : ExpStep). reading (sep_of skip) radix (drop (i + 1) u) (exp_scan s x)) (sym g ∙ q) ∙ exp-more h
 
-  pub exp-stop : {s : ExpStep} {n : ℕ} → i < length t → s ≡ exp_step_of skip radix seen x.down e (get_or t i 0) → s ≡ Refuse n → Finds t (Refused n) w
+  pub exp-stop : (t : List ℕ) {s : ExpStep} {n : Refusal} → i < length u → s ≡ exp_step_of skip radix seen x.down e (get_or u i 0) → s ≡ Err n → Finds t (Err n) w
   unfolding exp_scan
-  exp-stop {n = n} h q g =
-      refuses (sym (exp-more h) ∙ ap (λ (s : ExpStep). reading (sep_of skip) radix (drop (i + 1) t) (exp_scan s x)) (sym q ∙ g)
-      ∙ read-refused (sep_of skip) radix (drop (i + 1) t) n)
+  exp-stop t {n = n} h q g =
+      refuses (sym (exp-more h) ∙ ap (λ (s : ExpStep). reading (sep_of skip) radix (drop (i + 1) u) (exp_scan s x)) (sym q ∙ g)
+      ∙ read-refused (sep_of skip) radix (drop (i + 1) u) (number_of n))
 
-  pub exp-over : length t ≤ i → w ≡ exp_end (eqb (length x.digits) 0) seen (with_exp x x.down e)
-  exp-over h = sym inv ∙ ap (λ (l : List ℕ). reading (sep_of skip) radix l (exp_at seen x e)) (drop_of_length-le t h) ∙ read-exp-end (sep_of skip) radix seen x e
+  pub exp-over : length u ≤ i → w ≡ exp_end (eqb (length x.digits) 0) seen (with_exp x x.down e)
+  exp-over h = sym inv ∙ ap (λ (l : List ℕ). reading (sep_of skip) radix l (exp_at seen x e)) (drop_of_length-le u h) ∙ read-exp-end (sep_of skip) radix seen x e
 
 -- ---- the ends of the text, with the counts
 none_both : (a b : ℕ) → (eqb a 0 && eqb b 0) ≡ eqb (a + b) 0
@@ -154,21 +136,21 @@ module _ (t : List ℕ) (p : Parsed) (ready : Ready t p) where
 
   pub finds-unmarked : {r : Found} {w : Reading} → r ≡ unmarked_of p → w ≡ cond (eqb (length (written_of t p).digits) 0) (unread 11) (number (written_of t p))
       → Finds t r w
-  unfolding unmarked_of
+  unfolding unmarked_of number_of
   finds-unmarked {r} {w} q e = go (no_digits p) q (e ∙ ap (λ (g : Bool). cond g (unread 11) (number (written_of t p))) (sym no-digits-is))
     where
-      go : (g : Bool) → r ≡ cond g (Refused 11) (Number p) → w ≡ cond g (unread 11) (number (written_of t p)) → Finds t r w
+      go : (g : Bool) → r ≡ cond g (Err NoDigits) (Ok p) → w ≡ cond g (unread 11) (number (written_of t p)) → Finds t r w
       go true q e = subst (λ (f : Found). Finds t f w) (sym q) (refuses e)
       go false q e = subst (λ (f : Found). Finds t f w) (sym q) (finds e ready)
 
   pub finds-exp-end :
       {r : Found} {w : Reading} (seen : Bool) (e : ℕ) → e ≤ 2147483648 → r ≡ exp_end_of p seen e →
       w ≡ exp_end (eqb (length (written_of t p).digits) 0) seen (with_exp (written_of t p) (written_of t p).down e) → Finds t r w
-  unfolding exp_end_of exp_end
+  unfolding exp_end_of exp_end number_of
   finds-exp-end {r} {w} seen e l q z =
       go (no_digits p) seen q (z ∙ ap (λ (g : Bool). exp_end g seen (with_exp (written_of t p) (written_of t p).down e)) (sym no-digits-is))
     where
-      go : (g seen : Bool) → r ≡ cond g (Refused 11) (cond seen (Number (with_exponent p e)) (Refused 17))
+      go : (g seen : Bool) → r ≡ cond g (Err NoDigits) (cond seen (Ok (with_exponent p e)) (Err ExpNoDigits))
           → w ≡ exp_end g seen (with_exp (written_of t p) (written_of t p).down e) → Finds t r w
       go true seen q z = subst (λ (f : Found). Finds t f w) (sym q) (refuses z)
       go false true q z = subst (λ (f : Found). Finds t f w) (sym q) (finds (z ∙ exp-written e) (ready-exp e l))
@@ -183,25 +165,26 @@ pub no-sign-past : (t : List ℕ) (from : ℕ) → length t ≤ from → sign_fi
 unfolding sign_first
 no-sign-past t from h = rw (drop_of_length-le t h)
 
+-- ---- a byte at a place, or none, as `get` finds it
+pub inside : {i n : ℕ} → true ≡ ltb i n → i < n
+inside {i} {n} e = ltb-true i n (sym e)
+
+pub byte-at : (t : List ℕ) (i : ℕ) {b : ℕ} → true ≡ ltb i (length t) → b ≡ get_or t i b → b ≡ get_or t i 0
+byte-at t i {b} h e = e ∙ get_or_default t i b 0 (inside h)
+
+pub past : {i n : ℕ} → false ≡ ltb i n → n ≤ i
+past {i} {n} e = ltb-false i n (sym e)
+
 -- ---- from part to part
 pub finds-by : (t : List ℕ) {r : Found} {y z : Reading} → y ≡ z → Finds t r y → Finds t r z
 finds-by t {r} e f = subst (Finds t r) e f
 
-pub ready-down : (t : List ℕ) (p : Parsed) (d : Bool) {q : Parsed} → Ready t p → q ≡ with_down p d → Ready t q
-ready-down t p d h e = subst (Ready t) (sym e) (record {
-  whole-counted = h.whole-counted;
-  frac-counted = h.frac-counted;
-  small = h.small;
-  stretch = h.stretch;
-})
-
-pub ready-base : (t : List ℕ) (p : Parsed) (b : ℕ) {q : Parsed} → Ready t p → q ≡ with_mark_base p b → Ready t q
-ready-base t p b h e = subst (Ready t) (sym e) (record {
-  whole-counted = h.whole-counted;
-  frac-counted = h.frac-counted;
-  small = h.small;
-  stretch = h.stretch;
-})
+-- where the exponent's digits begin
+pub exp-begin : (t : List ℕ) (from : ℕ) (skip : Bool) (radix : ℕ) (p : Parsed)
+    → reading (sep_of skip) radix (take (length t - from) (drop from t)) (exp_at false (written_of t p) p.exp)
+    ≡ reading (sep_of skip) radix (drop from t) (at exponent sign (written_of t p))
+unfolding written_of
+exp-begin t from skip radix p = ap (λ (l : List ℕ). reading (sep_of skip) radix l (exp_at false (written_of t p) p.exp)) (take_rest t from)
 
 -- the sign of the exponent, at `from`, or none
 module _ (t : List ℕ) (from : ℕ) (skip : Bool) (radix : ℕ) (p : Parsed) where
@@ -247,20 +230,20 @@ module _ (t : List ℕ) (from : ℕ) (skip : Bool) (radix : ℕ) (p : Parsed) wh
 
 -- the class that a match found, and its refusals
 module _ (t : List ℕ) (next : ℕ) (skip : Bool) (radix : ℕ) (p : Parsed) {c : Class} where
-  pub after-sign : c ≡ Sign → Finds t (Refused 12) (after_run c skip radix (drop next t) (written_of t p))
-  unfolding after_run
+  pub after-sign : c ≡ Sign → Finds t (Err MisplacedSign) (after_run c skip radix (drop next t) (written_of t p))
+  unfolding after_run number_of
   after-sign e = refuses (ap (λ (k : Class). after_run k skip radix (drop next t) (written_of t p)) e)
 
-  pub after-point : c ≡ Point → Finds t (Refused 15) (after_run c skip radix (drop next t) (written_of t p))
-  unfolding after_run
+  pub after-point : c ≡ Point → Finds t (Err TooManyPoints) (after_run c skip radix (drop next t) (written_of t p))
+  unfolding after_run number_of
   after-point e = refuses (ap (λ (k : Class). after_run k skip radix (drop next t) (written_of t p)) e)
 
-  pub after-under : {n : ℕ} → c ≡ Underscore → n ≡ under_number skip → Finds t (Refused n) (after_run c skip radix (drop next t) (written_of t p))
+  pub after-under : {n : Refusal} → c ≡ Underscore → number_of n ≡ under_number skip → Finds t (Err n) (after_run c skip radix (drop next t) (written_of t p))
   unfolding after_run
   after-under e q = refuses (ap (λ (k : Class). after_run k skip radix (drop next t) (written_of t p)) e ∙ ap unread (sym q))
 
-  pub after-other : c ≡ Other → Finds t (Refused 13) (after_run c skip radix (drop next t) (written_of t p))
-  unfolding after_run
+  pub after-other : c ≡ Other → Finds t (Err InvalidDigit) (after_run c skip radix (drop next t) (written_of t p))
+  unfolding after_run number_of
   after-other e = refuses (ap (λ (k : Class). after_run k skip radix (drop next t) (written_of t p)) e)
 
   pub after-mark :

@@ -18,12 +18,11 @@ use Rattle.grammar.specs.Run.{digit_values, body_of, values-digit, values-under,
 use Rattle.grammar.specs.Class.{class_of, digit-plain}
 use Rattle.grammar.specs.Agrees.{plain-agrees}
 use Rattle.grammar.specs.declared.byte.Class.{Class}
-use Rattle.run.specs.Run.{run_at, more-fits}
+use Rattle.run.specs.Run.{run_at, len-fits}
 use Rattle.run.specs.declared.Run.{Run}
 use Rattle.scan.specs.After.{after_run, Stopped, read-after, read-point}
-use Rattle.scan.specs.Found.{run_digits, written_of, whole_of, unmarked_of, Counted, Ready, Finds, finds-by, finds-unmarked, no-sign-at, no-sign-past}
+use Rattle.scan.specs.Found.{Found, run_digits, written_of, whole_of, unmarked_of, Counted, Ready, Finds, finds-by, finds-unmarked, no-sign-at, no-sign-past}
 use Rattle.scan.specs.declared.Parsed.{Parsed}
-use Rattle.scan.specs.declared.Found.{Found}
 
 -- ---- what stands in front of which a run ends
 either : (a b : Bool) → (a || b) ≡ false → (a ≡ false) × (b ≡ false)
@@ -206,16 +205,6 @@ pub record Behind (t : List ℕ) (w : Run) (from : ℕ) : Type 0 where
   pub inside : w.to < length t
   pub body : body_of (part t w.from w.to) ≡ run_digits t w
 
--- a run is no longer than what there is
-len-fits : (skip : Bool) (radix : ℕ) (t : List ℕ) → run_len skip radix t ≤ length t
-unfolding run_len
-len-fits skip radix [] = omega arith
-len-fits skip radix (b ∷ t) = go (is_digit radix b)
-  where
-    go : (d : Bool) → cond d (suc (run_more skip radix t)) 0 ≤ length (b ∷ t)
-    go true = omega (arith, more-fits skip radix t)
-    go false = omega arith
-
 no_span : (t : List ℕ) (k : ℕ) → run_digits t (record { from = k; to = k; digits = 0 }) ≡ []
 unfolding digit_values digits_of
 no_span t k = let z : k - k ≡ 0 = omega arith in ap (λ (n : ℕ). digit_values (take n (drop k t))) z
@@ -329,19 +318,19 @@ module _ (t : List ℕ) (radix : ℕ) where
       ∙ ap (λ (l : List ℕ). reading Error radix l (at whole nothing (blank false))) (sym (drop-cons t 0 0 h)) ∙ plain-is)
       f
 
-  pub plain-empty : {r : Found} → length t ≡ 0 → Finds t r (reading (sep_of false) radix (drop 0 t) (at whole sign (blank false)))
+  pub plain-empty : {r : Found} → length t < 1 → Finds t r (reading (sep_of false) radix (drop 0 t) (at whole sign (blank false)))
       → Finds t r (plain_reading radix t)
   plain-empty h f = plain-none (no-sign-past t 0 (omega arith)) f
 
-  pub plain-plus : {r : Found} → (length t ≡ 0 → ⊥) → get_or t 0 0 ≡ 43 → Finds t r (reading (sep_of false) radix (drop 1 t) (at whole sign (blank false)))
+  pub plain-plus : {r : Found} → 1 ≤ length t → get_or t 0 0 ≡ 43 → Finds t r (reading (sep_of false) radix (drop 1 t) (at whole sign (blank false)))
       → Finds t r (plain_reading radix t)
   plain-plus h b f = plain-signed false (omega arith) (rw b) (rw b) f
 
-  pub plain-minus : {r : Found} → (length t ≡ 0 → ⊥) → get_or t 0 0 ≡ 45 → Finds t r (reading (sep_of false) radix (drop 1 t) (at whole sign (blank true)))
+  pub plain-minus : {r : Found} → 1 ≤ length t → get_or t 0 0 ≡ 45 → Finds t r (reading (sep_of false) radix (drop 1 t) (at whole sign (blank true)))
       → Finds t r (plain_reading radix t)
   plain-minus h b f = plain-signed true (omega arith) (rw b) (rw b) f
 
   pub plain-digits :
-      {r : Found} → (length t ≡ 0 → ⊥) → (get_or t 0 0 ≡ 43 → ⊥) → (get_or t 0 0 ≡ 45 → ⊥) →
+      {r : Found} → 1 ≤ length t → (get_or t 0 0 ≡ 43 → ⊥) → (get_or t 0 0 ≡ 45 → ⊥) →
       Finds t r (reading (sep_of false) radix (drop 0 t) (at whole sign (blank false))) → Finds t r (plain_reading radix t)
   plain-digits h a b f = plain-none (no-sign-at t 0 (omega arith) a b) f

@@ -4,37 +4,36 @@ ghost use Rattle.std.specs.Prelude.{◌≡◌};
 ghost use Rattle.scan.specs.Found.{no_digits, unmarked_of, exp_end_of};
 
 use crate::{Found, Parsed};
-use grammar::refusal;
+use format::Refusal;
 
+#[tactic(auto, unfolding(crate::specs::Found::no_digits))]
 fn no_digits(p: Parsed) -> bool
     ensures { result ≡ no_digits p }
 {
-    if p.whole.digits == 0 {
-        return p.frac.digits == 0;
-    }
-    false
+    p.whole.digits == 0 && p.frac.digits == 0
 }
 
 // Before the mark: a text with no digits is none.
+#[tactic(auto, unfolding(crate::specs::Found::unmarked_of))]
 pub(crate) fn unmarked(p: Parsed) -> Found
     ensures { result ≡ unmarked_of p }
 {
     if no_digits(p) {
-        return Found::Refused(refusal::NO_DIGITS);
+        return Err(Refusal::NoDigits);
     }
-    Found::Number(p)
+    Ok(p)
 }
 
 // The end of the exponent: a text with no digits is none, nor is a mark with no digit after it.
-pub(crate) fn exp_end(mut p: Parsed, seen: bool, e: u64) -> Found
+#[tactic(auto, unfolding(crate::specs::Found::exp_end_of))]
+pub(crate) fn exp_end(p: Parsed, seen: bool, e: u64) -> Found
     ensures { result ≡ exp_end_of p seen e }
 {
     if no_digits(p) {
-        return Found::Refused(refusal::NO_DIGITS);
+        return Err(Refusal::NoDigits);
     }
     if seen {
-        p.exp = e;
-        return Found::Number(p);
+        return Ok(Parsed { exp: e, ..p });
     }
-    Found::Refused(refusal::EXP_NO_DIGITS)
+    Err(Refusal::ExpNoDigits)
 }

@@ -7,12 +7,15 @@ ghost use Rattle.std.specs.Prelude.{◌≡◌, true};
 ghost use Rattle.grammar.specs.Meaning.{plain_reading, is_radix};
 ghost use Rattle.scan.specs.Found.{Finds};
 
+use format::Refusal;
+use reader::Reader;
 use run::Run;
 
 mod ends;
 pub mod literal;
 mod mark;
 mod parts;
+mod reader;
 
 // A number as it stands in the text. `base` is what the exponent scales by.
 #[derive(Clone, Copy)]
@@ -25,26 +28,18 @@ pub struct Parsed {
     pub exp: u64,
 }
 
-#[derive(Clone, Copy)]
-pub enum Found {
-    Number(Parsed),
-    Refused(u32),
-}
+// What the scanner finds.
+pub type Found = Result<Parsed, Refusal>;
 
 // A plain text in a radix.
 pub fn plain(text: &[u8], radix: u32) -> Found
     requires { is_radix radix ≡ true }
     ensures { Finds text.now result (plain_reading radix text.now) }
 {
-    if text.len() == 0 {
-        return parts::whole(text, 0, radix, false, false);
+    let reader = Reader { radix, skip: false };
+    match text {
+        [b'+', ..] => reader.whole(text, 1, false),
+        [b'-', ..] => reader.whole(text, 1, true),
+        _ => reader.whole(text, 0, false),
     }
-    let b = text[0];
-    if b == 43 {
-        return parts::whole(text, 1, radix, false, false);
-    }
-    if b == 45 {
-        return parts::whole(text, 1, radix, false, true);
-    }
-    parts::whole(text, 0, radix, false, false)
 }

@@ -1,9 +1,11 @@
 // The scanner of literals: the sign, the prefix, then the digits (S's `lit`).
-ghost use Rattle.std.specs.Prelude.{◌≡◌, ◌≤◌, length, drop};
-ghost use Rattle.grammar.specs.Meaning.{literal_minus, prefix_mark, prefix_radix, drop_underscores, after_prefix};
-ghost use Rattle.scan.specs.Literal.{literal_sign, start_of, FindsLiteral};
+ghost use Rattle.std.specs.Prelude.{◌≡◌, ◌≤◌, length, drop, take_while, ◌==◌};
+ghost use Rattle.format.specs.Meaning.{sign_by};
+ghost use Rattle.grammar.specs.Meaning.{literal_minus, prefix_radix, after_prefix};
+ghost use Rattle.scan.specs.Literal.{FindsLiteral};
 
-use crate::{Found, parts};
+use crate::Found;
+use crate::reader::Reader;
 
 // What a literal is, and its radix.
 #[derive(Clone, Copy)]
@@ -14,93 +16,53 @@ pub struct Written {
 
 // Whether the literal has a sign of its own: signed formats take `-`.
 fn minus(text: &[u8], signed: bool) -> bool
-    ensures { result ≡ literal_minus (literal_sign signed) text.now }
+    ensures { result ≡ literal_minus (sign_by signed) text.now }
 {
-    if text.len() == 0 {
-        return false;
-    }
-    if signed {
-        return text[0] == 45;
-    }
-    false
+    signed && matches!(text, [b'-', ..])
 }
 
-// Where the prefix would stand.
-fn start(neg: bool) -> usize
-    ensures { result ≡ start_of neg }
+// The radix that the prefix in front of a text says: 10 where there is none.
+#[tactic(auto, unfolding(grammar::specs::Meaning::prefix_radix, grammar::specs::Meaning::prefix_mark))]
+fn prefix_radix(text: &[u8]) -> u32
+    ensures { result ≡ prefix_radix text.now }
 {
-    if neg {
-        return 1;
+    match text {
+        [b'0', b'b', ..] => 2,
+        [b'0', b'o', ..] => 8,
+        [b'0', b'x', ..] => 16,
+        _ => 10,
     }
-    0
 }
 
-fn prefix_mark(b: u8) -> u32
-    ensures { result ≡ prefix_mark b }
+// How many `_` stand in front of a text.
+fn underscores(text: &[u8]) -> usize
+    ensures { result ≡ length (take_while (λ b. b == 95) text.now) }
 {
-    if b == 98 {
-        return 2;
-    }
-    if b == 111 {
-        return 8;
-    }
-    if b == 120 {
-        return 16;
-    }
-    10
+    text.iter().take_while(|b| **b == b'_').count()
 }
 
-// The radix that the prefix at `from` says: 10 where there is none.
-fn prefix_radix(text: &[u8], from: usize) -> u32
-    requires { from ≤ length text.now }
-    ensures { result ≡ prefix_radix (drop from text.now) }
-{
-    if text.len() - from < 2 {
-        return 10;
-    }
-    if text[from] == 48 {
-        return prefix_mark(text[from + 1]);
-    }
-    10
-}
-
-// The first byte from `from` on that is no `_`.
-fn past_underscores(text: &[u8], from: usize) -> usize
-    requires { from ≤ length text.now }
-    ensures { (result ≤ length text.now)
-        × (drop result text.now ≡ drop_underscores (drop from text.now)) }
-{
-    let mut i = from;
-    while i < text.len() {
-        if text[i] != 95 {
-            return i;
-        }
-        i += 1;
-    }
-    i
-}
-
-// Where the digits start, the prefix at `from` being of this radix.
-fn digits_at(text: &[u8], from: usize, radix: u32) -> usize
-    requires { (from ≤ length text.now) × (radix ≡ prefix_radix (drop from text.now)) }
-    ensures { (result ≤ length text.now)
-        × (drop result text.now ≡ after_prefix (drop from text.now)) }
+// Where the digits start, the prefix in front being of this radix.
+fn digits_at(text: &[u8], radix: u32) -> usize
+    requires { radix ≡ prefix_radix text.now }
+    ensures { (result ≤ length text.now) × (drop result text.now ≡ after_prefix text.now) }
 {
     if radix == 10 {
-        return from;
+        0
+    } else {
+        2 + underscores(&text[2..])
     }
-    past_underscores(text, from + 2)
 }
 
 pub fn literal(text: &[u8], signed: bool) -> Written
-    ensures { FindsLiteral (literal_sign signed) text.now result }
+    ensures { FindsLiteral (sign_by signed) text.now result }
 {
     let neg = minus(text, signed);
-    let from = start(neg);
-    let radix = prefix_radix(text, from);
-    let at = digits_at(text, from, radix);
+    let from = neg as usize;
+    let body = &text[from..];
+    let radix = prefix_radix(body);
+    let reader = Reader { radix, skip: true };
     Written {
         radix,
-        found: parts::whole(text, at, radix, true, neg),
+        found: reader.whole(text, from + digits_at(body, radix), neg),
     }
 }

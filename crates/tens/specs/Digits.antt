@@ -35,3 +35,14 @@ nat-below [] s = omega arith
 nat-below (d ∷ ds) s =
     let more : suc d * 10 ^ length ds ≤ 10 * 10 ^ length ds = mul-le-mul_right (10 ^ length ds) s.0 in
     rw pow-suc (omega (arith, nat_of-cons 10 d ds, nat-below ds s.1))
+
+-- ---- what the code carries along: digits below ten with their number, or with zeros in front, and the fraction bits of a format
+pub record IsDecimal (ds : List ℕ) (count frac : ℕ) : Type 0 where
+  pub counted : count ≡ length ds
+  pub below : (d : ℕ) → Memᴰ d ds → d < 10
+  pub few : frac ≤ 64
+
+pub record IsFraction (ds : List ℕ) (zeros frac : ℕ) : Type 0 where
+  pub below : (d : ℕ) → Memᴰ d ds → d < 10
+  pub short : zeros ≤ 19
+  pub few : frac ≤ 64

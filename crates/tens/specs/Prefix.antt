@@ -11,10 +11,11 @@ use Rattle.laws.specs.Nearest.{nearest_even, nearest-none}
 use Rattle.laws.specs.Powers.{power-sub}
 use Rattle.grammar.specs.Meaning.{nat_from}
 use Rattle.grammar.specs.Naturals.{nat_of, nat_from-shift}
-use Rattle.fold.specs.declared.Order.{Order}
+use Rattle.std.specs.declared.cmp.Ordering.{Ordering}
+use Rattle.std.specs.Ordering.{nat_cmp}
 use Rattle.tens.specs.Digits.{Small, nat-below}
-use Rattle.tens.specs.Order.{order-scale, order_ten, order-ten}
-use Rattle.fold.specs.Round.{order_of, round_by}
+use Rattle.tens.specs.Order.{cmp-scale, order_ten, order-ten}
+use Rattle.fold.specs.Round.{round_by}
 use Rattle.tens.specs.Middle.{middle-beside}
 
 -- the first k digits, with zeros after the last
@@ -155,16 +156,16 @@ module _ (ds : List ℕ) (small : Small ds) (f : ℕ) (few : f ≤ 64) where
       omega arith
 
   -- the middle above it, as the digits' comparison takes it
-  pub first-middle : order_ten ds ((first * 10 + 5) * 2 ^ (64 - f)) (2 ^ 64) ≡ order_of (nat_of 10 ds * 2 ^ f * 2) ((first * 2 + 1) * 10 ^ length ds)
+  pub first-middle : order_ten ds ((first * 10 + 5) * 2 ^ (64 - f)) (2 ^ 64) ≡ nat_cmp (nat_of 10 ds * 2 ^ f * 2) ((first * 2 + 1) * 10 ^ length ds)
   first-middle =
       let q = first in
       let unit = 2 ^ (64 - f) * 5 in
       let left : nat_of 10 ds * 2 ^ 64 * 10 ≡ nat_of 10 ds * 2 ^ f * 2 * unit = omega (arith, ap (λ (y : ℕ). nat_of 10 ds * y) (power-sub f 64 few)) in
       let right : (q * 10 + 5) * 2 ^ (64 - f) * 10 ^ length ds ≡ (q * 2 + 1) * 10 ^ length ds * unit = omega arith in
       order-ten ds ((q * 10 + 5) * 2 ^ (64 - f)) (2 ^ 64) (lit< tt) small
-      ∙ ap (λ (x : ℕ). order_of x ((q * 10 + 5) * 2 ^ (64 - f) * 10 ^ length ds)) left
-      ∙ ap (λ (y : ℕ). order_of (nat_of 10 ds * 2 ^ f * 2 * unit) y) right
-      ∙ order-scale unit (nat_of 10 ds * 2 ^ f * 2) ((q * 2 + 1) * 10 ^ length ds) (omega (arith, pow_pos (64 - f)))
+      ∙ ap (λ (x : ℕ). nat_cmp x ((q * 10 + 5) * 2 ^ (64 - f) * 10 ^ length ds)) left
+      ∙ ap (λ (y : ℕ). nat_cmp (nat_of 10 ds * 2 ^ f * 2 * unit) y) right
+      ∙ cmp-scale unit (nat_of 10 ds * 2 ^ f * 2) ((q * 2 + 1) * 10 ^ length ds) (omega (arith, pow_pos (64 - f)))
 
   -- so they round it
   pub first-rounds : (i : ℕ) → nearest_even ((i * 10 ^ length ds + nat_of 10 ds) * 2 ^ f) (10 ^ length ds)
@@ -174,7 +175,7 @@ module _ (ds : List ℕ) (small : Small ds) (f : ℕ) (few : f ≤ 64) where
       let apart : (i * p + nat_of 10 ds) * 2 ^ f ≡ i * 2 ^ f * p + nat_of 10 ds * 2 ^ f = omega arith in
       ap (λ (n : ℕ). nearest_even n p) apart
       ∙ middle-beside (i * 2 ^ f) (nat_of 10 ds * 2 ^ f) p first (one-le-pow (length ds) 10 (omega arith)) first-low first-high
-      ∙ ap (λ (o : Order). round_by o (i * 2 ^ f + first)) (sym first-middle)
+      ∙ ap (λ (o : Ordering). round_by o (i * 2 ^ f + first)) (sym first-middle)
 
 -- ---- twenty zeros in front: less than half a step
 pub twenty-zeros : (z f : ℕ) (ds : List ℕ) → Small ds → f ≤ 64 → 20 ≤ z → nearest_even (nat_of 10 ds * 2 ^ f) (10 ^ (z + length ds)) ≡ 0

@@ -1,6 +1,6 @@
 -- The parts of a decimal number, folded: zeros after the digits, a fraction beside a whole number, and the digits cut at the point. Assumes nothing.
-use Rattle.std.specs.Prelude.{◌≡◌, refl, Bool, true, false, List, ◌++◌, ℕ, zero, suc, ◌+◌, ◌-◌, ◌*◌, ◌%◌, ◌^◌, ◌≤◌, ◌<◌, length, take, drop, replicate}
-use Rattle.std.proofs.Common.{sym, ap, ap₂, ◌∙◌, subst, pow-suc, mul-pos, add-one, arith, length-append, pow_pos}
+use Rattle.std.specs.Prelude.{◌≡◌, Bool, true, false, List, ◌++◌, ℕ, zero, suc, ◌+◌, ◌-◌, ◌*◌, ◌^◌, ◌≤◌, ◌<◌, length, take, drop, replicate}
+use Rattle.std.proofs.Common.{sym, ap, ap₂, ◌∙◌, pow-suc, mul-pos, add-one, arith, length-append, pow_pos}
 use Rattle.std.proofs.Math.Nat.{one-le-pow}
 use Rattle.std.proofs.Math.Decide.{dec_le}
 use Rattle.std.proofs.lemmas.List.{length-replicate}
@@ -10,10 +10,9 @@ use Rattle.laws.specs.Powers.{power-sub, ten-power}
 use Rattle.grammar.specs.Meaning.{raw_of}
 use Rattle.grammar.specs.Naturals.{nat_of}
 use Rattle.fold.specs.declared.Folded.{Folded}
-use Rattle.fold.specs.declared.Order.{Order}
-use Rattle.fold.specs.declared.Order.TheVariants.{Less, Same, More}
+use Rattle.std.specs.declared.cmp.Ordering.{Ordering}
 use Rattle.fold.specs.Round.{round_by}
-use Rattle.fold.specs.Fold.{fold_of, folded_value, fold_same, fold_step, fold-again, fold-add, fold-times, fold-round, round-less, round_same, round-more}
+use Rattle.fold.specs.Fold.{fold_of, folded_value, fold_same, fold_step, fold-add, fold-times, fold-round}
 use Rattle.tens.specs.Digits.{Small, small-zeros, small-drop, nat-zeros}
 use Rattle.tens.specs.Order.{order_ten}
 use Rattle.tens.specs.Prefix.{first_raw, lead_of, first-rounds, twenty-zeros}
@@ -53,16 +52,6 @@ lift-next v k e f =
     let p : v * 10 ^ k * 10 + 0 ≡ v * 10 ^ (k + 1) = rw (add-one, pow-suc) (omega arith) in
     f ∙ ap (λ (x : Folded). fold_of (folded_value x * 10 + 0)) e ∙ fold_step (v * 10 ^ k) 10 0 (omega arith) ∙ ap fold_of p
 
-pub lift-start : (v : ℕ) {x : Folded} → x ≡ fold_of (v + 0) → x ≡ fold_of (folded_value x * 10 ^ 0)
-lift-start v {x} e =
-    let p : folded_value x ≡ folded_value x * 10 ^ 0 = omega arith in
-    e ∙ sym (fold-again (v + 0)) ∙ ap (λ (y : Folded). fold_of (folded_value y)) (sym e) ∙ ap fold_of p
-
-pub lift-end : (v z : ℕ) {x r : Folded} → x ≡ fold_of (v + 0) → r ≡ fold_of (folded_value x * 10 ^ z) → r ≡ fold_of (v * 10 ^ z)
-lift-end v z e f =
-    let p : (v + 0) * 10 ^ z ≡ v * 10 ^ z = omega arith in
-    f ∙ ap (λ (y : Folded). fold_of (folded_value y * 10 ^ z)) e ∙ fold-times (v + 0) (10 ^ z) (one-le-pow z 10 (omega arith)) ∙ ap fold_of p
-
 pub past-folded : (ds : List ℕ) (k z f : ℕ) {x y r : Folded} → k ≡ length ds → x ≡ fold_of (nat_of 10 (take k ds)) → y ≡ fold_of (folded_value x * 10 ^ z)
     → r ≡ fold_of (folded_value y * 2 ^ f)
     → r ≡ fold_of (nat_of 10 ds * 10 ^ z * 2 ^ f)
@@ -74,34 +63,19 @@ past-folded ds k z f l e g h =
     (g ∙ ap (λ (x : Folded). fold_of (folded_value x * 10 ^ z)) (e ∙ ap fold_of all) ∙ fold-times n (10 ^ z) (one-le-pow z 10 (omega arith)))
     ∙ fold-times (n * 10 ^ z) (2 ^ f) (pow_pos f)
 
--- ---- what rounding adds
-unfoldable pub carry_of : Order → ℕ → ℕ
-carry_of Less last = 0
-carry_of Same last = last % 2
-carry_of More last = 1
-
-pub carry-by : (last : ℕ) {how j : Order} {r : ℕ} → how ≡ j → r ≡ carry_of j last → r ≡ carry_of how last
-carry-by last p e = e ∙ ap (λ (o : Order). carry_of o last) (sym p)
-
-carry-round : (how : Order) (x : Folded) {r : Folded} → r ≡ fold_of (folded_value x + carry_of how x.low) → r ≡ fold_of (round_by how (folded_value x))
-unfolding carry_of
-carry-round Less x e = round-less x refl e
-carry-round Same x e = round_same x refl e
-carry-round More x e = round-more x refl e
-
 -- ---- a whole number i and the fraction 0.ds beside it, times 2^f, to the nearest
 abbrev pub beside_of : ℕ → List ℕ → ℕ → ℕ
 beside_of i ds f = nearest_even ((i * 10 ^ length ds + nat_of 10 ds) * 2 ^ f) (10 ^ length ds)
 
 module _ (ds : List ℕ) (small : Small ds) (f : ℕ) (few : f ≤ 64) where
   -- the steps of the code
-  pub beside-folded : (v q : ℕ) {o : Order} {x y r : Folded} → q ≡ first_raw f (lead_of 27 ds) → o ≡ order_ten ds ((q * 10 + 5) * 2 ^ (64 - f)) (2 ^ 64)
-      → x ≡ fold_of (v * 2 ^ f) → y ≡ fold_of (folded_value x + q) → r ≡ fold_of (folded_value y + carry_of o y.low) → r ≡ fold_of (beside_of v ds f)
+  pub beside-folded : (v q : ℕ) {o : Ordering} {x y r : Folded} → q ≡ first_raw f (lead_of 27 ds) → o ≡ order_ten ds ((q * 10 + 5) * 2 ^ (64 - f)) (2 ^ 64)
+      → x ≡ fold_of (v * 2 ^ f) → y ≡ fold_of (folded_value x + q) → r ≡ fold_of (round_by o (folded_value y)) → r ≡ fold_of (beside_of v ds f)
   beside-folded v q {o} {y = y} e g h k l =
-      carry-round o y l
+      l
       ∙ ap (λ (y : Folded). fold_of (round_by o (folded_value y))) (k ∙ ap (λ (x : Folded). fold_of (folded_value x + q)) h ∙ fold-add (v * 2 ^ f) q)
       ∙ fold-round (v * 2 ^ f + q) o
-      ∙ ap (λ (w : Order). fold_of (round_by w (v * 2 ^ f + q))) g
+      ∙ ap (λ (w : Ordering). fold_of (round_by w (v * 2 ^ f + q))) g
       ∙ ap (λ (n : ℕ). fold_of (round_by (order_ten ds ((n * 10 + 5) * 2 ^ (64 - f)) (2 ^ 64)) (v * 2 ^ f + n))) e
       ∙ ap fold_of (sym (first-rounds ds small f few v))
 
@@ -117,11 +91,6 @@ module _ (ds : List ℕ) (small : Small ds) (f : ℕ) (few : f ≤ 64) where
       ∙ ap fold_of (sym (first-rounds ds small f few i))
 
 -- ---- the digits cut at the point, p of them after it
-pub below-cut : (ds : List ℕ) (n p : ℕ) {es : List ℕ} → n ≡ length ds → p ≤ n → es ≡ drop (n - p) ds → Small ds → (p ≡ length es) × Small es
-below-cut ds n p {es} h l e s =
-    let k : n - p ≡ length ds - p = ap (λ (m : ℕ). m - p) h in
-    (sym (ap length e ∙ ap (λ (m : ℕ). length (drop m ds)) k ∙ point-length ds p (omega arith)), subst Small (sym e) (small-drop (n - p) ds s))
-
 module _ (ds : List ℕ) (small : Small ds) (f : ℕ) (few : f ≤ 64) (p : ℕ) where
   cut_at : {es : List ℕ} {x r : Folded} → p ≤ length ds → es ≡ drop (length ds - p) ds → x ≡ fold_of (nat_of 10 (take (length ds - p) ds))
       → r ≡ fold_of (beside_of (folded_value x) es f) → r ≡ fold_of (nearest_even (nat_of 10 ds * 2 ^ f) (10 ^ p))

@@ -63,5 +63,5 @@ fn settled(
     ensures { result ≡ signed_answer (number_outcome manner is_signed width frac radix text.now p) }
 {
     let m = magnitude::magnitude(text, p, radix, frac);
-    format::signed::fit(p.neg, fold::high(m), m.low, width, manner)
+    format::signed::fit(p.neg, m.high(), m.low, width, manner)
 }

@@ -63,5 +63,5 @@ fn settled(
     ensures { result ≡ unsigned_answer (number_outcome manner isUnsigned width frac radix text.now p) }
 {
     let m = magnitude::magnitude(text, p, radix, frac);
-    format::unsigned::fit(p.neg, fold::high(m), m.low, width, manner)
+    format::unsigned::fit(p.neg, m.high(), m.low, width, manner)
 }

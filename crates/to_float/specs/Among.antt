@@ -18,9 +18,9 @@ use Rattle.format.specs.Meaning.{with_sign}
 use Rattle.format.specs.Place.{sign-out}
 use Rattle.float.specs.Meaning.{Binary, binary32, binary64, bias, least, negative, biased, trailing}
 use Rattle.float.specs.Meaning.{nan, infinite, finite, of_fields, pattern_value}
-use Rattle.float.specs.Parts.{binary}
+use Rattle.float.specs.Parts.{binary, Roomy}
 use Rattle.to_float.specs.Meaning.{significand, nearest_steps, rounded_value, pattern_of}
-use Rattle.to_float.specs.Encoding.{Roomy, roomy-least}
+use Rattle.to_float.specs.Encoding.{roomy-least}
 use Rattle.to_float.specs.Theorems.{Short, past, fields-of, field-trailing, sign-back, roomy-32, roomy-64}
 use Rattle.to_float.specs.Theorems.{pattern-finite, pattern-infinite, pattern-rounded}
 use Rattle.to_float.specs.Near.{gap, same-nearest, same-tie, steps-past}

@@ -13,13 +13,8 @@ use Rattle.std.proofs.Math.Pow.{pow-add, pow-lt}
 use Rattle.laws.specs.Nearest.{nearest_even, nearest, nearest-scale, nearest-least, nearest-none}
 use Rattle.laws.specs.Powers.{power-sub, double}
 use Rattle.float.specs.Meaning.{Binary, bias, least}
-use Rattle.float.specs.Parts.{binary, Small}
+use Rattle.float.specs.Parts.{binary, Roomy}
 use Rattle.to_float.specs.Meaning.{unit, significand, nearest_steps, joined, pattern_by, pattern_of}
-
--- formats in which every n / 2^F is 0 or normal, for n below 2^64 and F at most 64
-pub record Roomy (p w : ℕ) : Type 0 where
-  pub small : Small p w
-  pub roomy : 8 ≤ w
 
 -- n has d binary digits
 pub record Digits (n d : ℕ) : Type 0 where

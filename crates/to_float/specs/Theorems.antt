@@ -26,11 +26,11 @@ use Rattle.format.proofs.Theorems.{settle-fits}
 use Rattle.format.proofs.Far.{limit-word}
 use Rattle.float.specs.Meaning.{Binary, bias, least, negative, biased, trailing, steps}
 use Rattle.float.specs.Meaning.{infinite, finite, of_fields, pattern_value, raw_of_steps}
-use Rattle.float.specs.Parts.{binary}
+use Rattle.float.specs.Parts.{binary, Roomy}
 use Rattle.float.specs.Scaled.{scaled-few}
 use Rattle.from_float.specs.Meaning.{of_value, from_float_of}
 use Rattle.to_float.specs.Meaning.{unit, significand, nearest_steps, rounded_value, joined, pattern_by, pattern_of}
-use Rattle.to_float.specs.Encoding.{nearest-most, Roomy, Digits, digits-of, unit-is, significand-is, steps-below}
+use Rattle.to_float.specs.Encoding.{nearest-most, Digits, digits-of, unit-is, significand-is, steps-below}
 use Rattle.to_float.specs.Encoding.{roomy-least}
 
 -- ---- "nearest, ties to even": n / 2^f in units of the significand's last place

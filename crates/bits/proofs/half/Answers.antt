@@ -1,14 +1,17 @@
 -- `bits::half` meets its contract: the powers are those of the digit's bits. Assumes nothing.
-use mathlib.Core.Path.{ap₂, ◌∙◌}
-use Prim.Native.Nat.{ℕ, ◌%◌}
-use native.Mathlib.Omega.{arith}
-use lib.Pow.{pow_pos}
+use Rattle.std.proofs.Common.{sym, ap, ap₂, ◌≡◌, ◌∙◌, ℕ, ◌%◌, ◌-◌, ◌^◌, Bool, cond, nat_cmp, Equal, Greater}
+use Rattle.std.specs.Ordering.{ordering_then}
 use Rattle.bits.specs.Cut.{cut_of}
+use Rattle.bits.proofs.half.Goals.{then-rest, else-rest}
 use Rattle.bits.proofs.half.Goals as goal
 
-pub nonzero_rem-digit : goal.nonzero_rem-digit
-nonzero_rem-digit c = omega (arith, c.power.ensures, pow_pos c.args.c)
-
 pub returns : goal.returns
+unfolding cut_of
 returns c =
-    c.compare.ensures ∙ ap₂ (λ (m h : ℕ). cut_of (c.args.digit % m) h c.args.rest) c.power.ensures c.power-2.ensures
+    let a = c.args in
+    let bits : c.cmp.result ≡ nat_cmp (a.digit % 2 ^ a.c) (2 ^ (a.c - 1)) =
+    c.cmp.ensures ∙ ap₂ (λ (m h : ℕ). nat_cmp (a.digit % m) h) c.power.ensures c.power-2.ensures in
+    let after : c.if-rest.after ≡ cond a.rest Greater Equal = elim c.if-rest.branch [
+      | then-rest w ↦ w.after-is ∙ ap (λ (b : Bool). cond b Greater Equal) (sym w.if-rest.true)
+      | else-rest w ↦ w.after-is ∙ ap (λ (b : Bool). cond b Greater Equal) (sym w.if-rest.false)
+    ] in c.then.ensures ∙ ap₂ ordering_then bits after

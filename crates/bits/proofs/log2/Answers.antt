@@ -1,7 +1,6 @@
--- `bits::log2` meets its contract, power by power. Assumes nothing.
-use native.Mathlib.Omega.{arith}
-use Rattle.bits.specs.Bits.{last-power}
+-- `bits::log2` meets its contract: a power of two by how it lies between two. Assumes nothing.
+use Rattle.bits.specs.Bits.{log-power}
 use Rattle.bits.proofs.log2.Goals as goal
 
 pub returns : goal.returns
-returns c = (last-power c.requires c.if-power-eq1.false c.if-power-eq2.false c.if-power-eq8.false, omega arith)
+returns c = log-power c.ilog2.result c.requires c.ilog2.ensures.power_le c.ilog2.ensures.next_power_gt

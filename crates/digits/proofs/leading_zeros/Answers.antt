@@ -1,31 +1,19 @@
--- `digits::leading_zeros` meets its contract. The invariant: the zeros counted and those in front of what is left make up the zeros in front.
+-- `digits::leading_zeros` meets its contract: the chain counts the zeros in front of the bytes that are no `_`.
 -- Assumes nothing.
-use native.Mathlib.Omega.{arith}
-use Rattle.digits.specs.Meaning.{leading_zeros}
-use Rattle.digits.proofs.Turns.{turn, end-front, zeros-skip, zeros-more, zeros-stop, zeros-end}
+use Rattle.std.proofs.Common.{eqb, not, ◌∙◌, rules, tests}
+use Rattle.std.proofs.lemmas.Iterator.{YieldsList-from_slice}
+use Rattle.std.proofs.lemmas.Iterator.Consumers.{count_from_yields_List, YieldsList-from_filter}
+use Rattle.std.proofs.lemmas.Iterator.Search.{YieldsList-from_take_while}
+use Rattle.digits.specs.Meaning.{is_und, is_zero}
+use Rattle.digits.proofs.Ends.{zeros-counted}
 use Rattle.digits.proofs.leading_zeros.Goals as goal
-use Rattle.digits.proofs.leading_zeros.Goals.{then-view-i-ne95+else-view-i-ne48, else-view-i-ne95}
-
-pub returns-then-view-i-ne48 : goal.returns-then-view-i-ne48
-unfolding leading_zeros
-returns-then-view-i-ne48 c =
-    let t = c.args.view.now in
-    let i = c.loop-i.i in
-    let e = turn t i (omega arith) in
-    omega (arith, zeros-stop e c.if-view-i-ne95.true c.if-view-i-ne48.true)
-
-pub loop-i-preserved : goal.loop-i-preserved
-loop-i-preserved c =
-    let t = c.args.view.now in
-    let i = c.loop-i.i in
-    let e = turn t i (omega arith) in
-    elim c.if-view-i-ne95.branch [
-      | then-view-i-ne95+else-view-i-ne48 w ↦ (omega arith, omega arith, omega (arith, zeros-more e w.if-view-i-ne95.true w.if-view-i-ne48.false))
-      | else-view-i-ne95 w ↦ (omega arith, omega arith, omega (arith, zeros-skip e w.if-view-i-ne95.false))
-    ]
 
 pub returns : goal.returns
-unfolding leading_zeros
+unfolding is_und is_zero
 returns c =
     let t = c.args.view.now in
-    omega (arith, zeros-end (end-front t c.loop-i.i (omega arith)))
+    count_from_yields_List c.take_while.result _ c.count.ensures.ran
+    (YieldsList-from_take_while _ (λ b. eqb b 48)
+    (YieldsList-from_filter _ (λ b. not (eqb b 95)) (YieldsList-from_slice t (cc)) (cc) (λ x b q k. search (rules, tests)))
+    c.take_while.ensures.closure c.take_while.ensures.done (λ x b q k. search (rules, tests)))
+    ∙ zeros-counted t

@@ -12,18 +12,18 @@ use Rattle.exact.proofs.signed_product.Goals as goal
 
 pub overflow_mul-a : goal.overflow_mul-a
 overflow_mul-a c =
-    product-fits _ _ _ _ c.of_signed-x.ensures
-    c.of_signed-y.ensures (omega arith) (omega arith)
+    product-fits _ _ _ _ c.of-x.ensures
+    c.of-y.ensures (omega arith) (omega arith)
 
 pub returns-then-frac-lt64 : goal.returns-then-frac-lt64
 returns-then-frac-lt64 c =
     let m = 2 ^ c.args.frac in
-    c.of_number.ensures ∙ c.of_signed.ensures ∙ shifted_back m (overflow_mul-a c.before.before)
+    c.of_number.ensures ∙ c.of.ensures ∙ shifted_back m (overflow_mul-a c.before.before)
     ∙ ap₂ (λ (x y : ℤ). floor (x *ℤ y) m) (to_z-of_z {w = w64} c.ranges.a) (to_z-of_z {w = w64} c.ranges.b)
 
 pub returns : goal.returns
 returns c =
     let fits = c.ranges in
     let f = c.args.frac in
-    via₂ (λ (x y : ℤ). floor (x *ℤ y) (2 ^ f)) (c.of_signed-x.ensures ∙ to_z-of_z {w = w64} fits.a)
-    (c.of_signed-y.ensures ∙ to_z-of_z {w = w64} fits.b) c.product.ensures
+    via₂ (λ (x y : ℤ). floor (x *ℤ y) (2 ^ f)) (c.of-x.ensures ∙ to_z-of_z {w = w64} fits.a)
+    (c.of-y.ensures ∙ to_z-of_z {w = w64} fits.b) c.product.ensures

@@ -9,17 +9,17 @@ use Rattle.exact.proofs.signed_sum.Goals as goal
 
 pub overflow_add-a : goal.overflow_add-a
 overflow_add-a c =
-    sum_fits _ _ _ _ c.of_signed-x.ensures c.of_signed-y.ensures (omega arith)
+    sum_fits _ _ _ _ c.of-x.ensures c.of-y.ensures (omega arith)
     (omega arith)
 
 pub returns-then-y-lt-ADDS_UP : goal.returns-then-y-lt-ADDS_UP
 returns-then-y-lt-ADDS_UP c =
     let fits = c.ranges in
-    c.of_number.ensures ∙ c.of_signed.ensures ∙ to_z-of_z {w = w64} (overflow_add-a c.before.before)
+    c.of_number.ensures ∙ c.of.ensures ∙ to_z-of_z {w = w64} (overflow_add-a c.before.before)
     ∙ ap₂ ◌+ℤ◌ (to_z-of_z {w = w64} fits.a) (to_z-of_z {w = w64} fits.b)
 
 pub returns : goal.returns
 returns c =
     let fits = c.ranges in
-    via₂ ◌+ℤ◌ (c.of_signed-x.ensures ∙ to_z-of_z {w = w64} fits.a)
-    (c.of_signed-y.ensures ∙ to_z-of_z {w = w64} fits.b) c.sum.ensures
+    via₂ ◌+ℤ◌ (c.of-x.ensures ∙ to_z-of_z {w = w64} fits.a)
+    (c.of-y.ensures ∙ to_z-of_z {w = w64} fits.b) c.sum.ensures

@@ -1,5 +1,5 @@
 -- `step` meets its promise: where the number of taps is refused, nothing is done; else the callees' equations, one in the other. Assumes nothing.
-use Rattle.std.proofs.Common.{arith, rules}
+use Rattle.std.proofs.Common.{rules}
 use mathlib.Core.Path.{◌≡◌, ap, ◌∙◌, sym}
 use mathlib.Core.Bool.{Bool}
 use mathlib.Core.List.{List}
@@ -11,45 +11,32 @@ use mir.Val.{to_z, of_z}
 use Rattle.laws.specs.Signed.{ok-back}
 use Rattle.format.specs.declared.SignedAnswer.TheVariants.{Done as DoneS}
 use Rattle.filter.specs.declared.sum.Held.{Held}
-use Rattle.filter.specs.Run.{next-length}
-use Rattle.filter.specs.Meaning.{most_taps, output_of, clip_of, stepped, step_of}
+use Rattle.filter.specs.Meaning.{output_of, clip_of, stepped, step_of}
 use Rattle.filter.specs.Refuse.{taps-few, refuses, goes_on}
 use Rattle.filter.proofs.step.Goals as goal
-use Rattle.filter.proofs.step.Goals.{After-wide}
 
 -- what the callees give, put into the step's outcome
 same_step : (taps : List ℤ) {y : ℤ} {b : Bool} {line new : List ℤ} → y ≡ output_of taps line → b ≡ clip_of taps line → line ≡ new
     → stepped (DoneS y b) line ≡ stepped (DoneS (output_of taps new) (clip_of taps new)) new
 same_step taps o f l = rw (o, f, l)
 
-value : (c : After-wide) → to_z w64 (of_z w64 c.wide.result) ≡ c.output-held.result.value
-value c =
-    let output = c.output-held in
-    ok-back w64 c.wide.result c.wide.type_inv ∙ c.wide.ensures ∙ ok-back w16 output.result.value (omega arith)
-
 pub returns-then-fault-ne0 : goal.returns-then-fault-ne0
 unfolding step_of
 returns-then-fault-ne0 c = refuses _ _ _ _ c.taps-fault.ensures c.if-fault-ne0.true
 
-pub slice_bounds-output-end : goal.slice_bounds-output-end
-slice_bounds-output-end c =
-    let samples = c.args.state.samples in
-    let long : length samples ≡ most_taps = search rules in
-    sym (ap length c.push.ensures ∙ next-length samples _ long)
-
-pub output-held-requires : goal.output-held-requires
-output-held-requires c =
+pub new-requires : goal.new-requires
+new-requires c =
     let taps = c.taps-fault in
-    let few = taps-few (length c.args.taps.now) (sym taps.ensures ∙ c.if-fault-ne0.false) in
-    record { few_taps = few; enough_samples = omega arith }
+    taps-few (length c.args.taps.now) (sym taps.ensures ∙ c.if-fault-ne0.false)
 
 pub returns : goal.returns
 unfolding step_of output_of clip_of
 returns c =
     let taps = c.taps-fault in
     let left = c.if-fault-ne0.false in
-    let pushed = c.push in
     let output = c.output-held in
-    let line = rw (to_z-of_z {w = w16} c.ranges.x) at pushed.ensures in
-    same_step c.args.taps.now (value c ∙ ap (λ (h : Held). h.value) output.ensures) (ap (λ (h : Held). h.clipped) output.ensures) line
+    let held = rw c.new.ensures at output.ensures in
+    let line = rw (to_z-of_z {w = w16} c.ranges.x) at c.push.ensures in
+    let value : to_z w64 (of_z w64 c.from.result) ≡ output.result.value = search (rules, ok-back) in
+    same_step c.args.taps.now (value ∙ ap (λ (h : Held). h.value) held) (ap (λ (h : Held). h.clipped) held) line
     ∙ goes_on _ _ _ _ taps.ensures left

@@ -1,20 +1,13 @@
 -- `format::is_width` meets its promise, by the tests. Assumes nothing.
-use Rattle.laws.specs.Rules.{tests}
+use Rattle.std.proofs.Common.{arith}
+use Rattle.std.proofs.lemmas.Grind.{common_steps}
 use Rattle.format.specs.Meaning.{is_width}
 use Rattle.format.proofs.is_width.Goals as goal
 
-pub returns-then-width-eq8 : goal.returns-then-width-eq8
+pub returns-in-8 : goal.returns-in-8
 unfolding is_width
-returns-then-width-eq8 c = search tests
+returns-in-8 c = grind (arith, common_steps)
 
-pub returns-then-width-eq16 : goal.returns-then-width-eq16
+pub returns-in_default : goal.returns-in_default
 unfolding is_width
-returns-then-width-eq16 c = search tests
-
-pub returns-then-width-eq32 : goal.returns-then-width-eq32
-unfolding is_width
-returns-then-width-eq32 c = search tests
-
-pub returns : goal.returns
-unfolding is_width
-returns c = search tests
+returns-in_default c = grind (arith, common_steps)

@@ -19,15 +19,19 @@ pub returns-then-fault-ne0 : goal.returns-then-fault-ne0
 unfolding headroom_of
 returns-then-fault-ne0 c = refuses _ _ _ _ c.headroom-fault.ensures c.if-fault-ne0.true
 
+pub new-requires : goal.new-requires
+new-requires c = (head-fit (length c.args.taps.now) (length c.args.witness.now) (sym c.headroom-fault.ensures ∙ c.if-fault-ne0.false)).1
+
 pub verdict-requires : goal.verdict-requires
 verdict-requires c =
-    let a = c.args in
-    let fit = head-fit (length a.taps.now) (length a.witness.now) (sym c.headroom-fault.ensures ∙ c.if-fault-ne0.false) in
-    record { few_taps = fit.1; witness_len = sym fit.0 }
+    let fit = head-fit (length c.args.taps.now) (length c.args.witness.now) (sym c.headroom-fault.ensures ∙ c.if-fault-ne0.false) in
+    rw c.new.ensures (sym fit.0)
 
 pub returns : goal.returns
 unfolding headroom_of
 returns c =
     let fault = c.headroom-fault in
     let told = c.verdict.ensures in
-    same_head told.0 told.1 ∙ goes_on _ _ _ _ fault.ensures c.if-fault-ne0.false
+    let verdict = rw c.new.ensures at told.verdict in
+    let witness = rw c.new.ensures at told.witness in
+    same_head (c.number.ensures ∙ verdict) witness ∙ goes_on _ _ _ _ fault.ensures c.if-fault-ne0.false

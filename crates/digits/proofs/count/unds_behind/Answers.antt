@@ -1,29 +1,18 @@
--- `digits::count::unds_behind` meets its contract. The invariant: the bytes passed and the `_` behind what is left make up the `_` behind.
+-- `digits::count::unds_behind` meets its contract: the chain counts what the library's `take_while` gives from behind.
 -- Assumes nothing.
-use native.Mathlib.Omega.{arith}
+use Rattle.std.proofs.Common.{eqb, ap, ◌∙◌, rules, tests, length, reverse}
+use Rattle.std.proofs.lemmas.Iterator.Adapters.{YieldsList-from_rev_slice}
+use Rattle.std.proofs.lemmas.Iterator.Consumers.{count_from_yields_List}
+use Rattle.std.proofs.lemmas.Iterator.Search.{YieldsList-from_take_while}
 use Rattle.digits.specs.Meaning.{is_und}
-use Rattle.digits.proofs.Turns.{turn-back, end_back, start_back, und-yes, und-no, while-more, while-stop, while-end}
+use Rattle.digits.proofs.Ends.{taken-is}
 use Rattle.digits.proofs.count.unds_behind.Goals as goal
 
-pub loop-end-init : goal.loop-end-init
-loop-end-init c =
-    let t = c.args.run.now in
-    (omega arith, rw (start_back t) (omega arith))
-
-pub returns-then-run-end-ne95 : goal.returns-then-run-end-ne95
-returns-then-run-end-ne95 c =
-    let t = c.args.run.now in
-    let e = turn-back t c.loop-end.end (omega arith) (omega arith) in
-    omega (arith, while-stop e is_und (und-no _ c.if-run-end-ne95.true))
-
-pub loop-end-preserved : goal.loop-end-preserved
-loop-end-preserved c =
-    let t = c.args.run.now in
-    let e = turn-back t c.loop-end.end (omega arith) (omega arith) in
-    (omega arith, omega (arith, while-more e is_und (und-yes _ (omega arith))))
-
 pub returns : goal.returns
+unfolding is_und
 returns c =
     let t = c.args.run.now in
-    let e = c.loop-end.end in
-    omega (arith, while-end (end_back t e (omega arith)) is_und)
+    count_from_yields_List c.take_while.result _ c.count.ensures.ran
+    (YieldsList-from_take_while _ (λ b. eqb b 95) (YieldsList-from_rev_slice t cc)
+    c.take_while.ensures.closure c.take_while.ensures.done (λ x b q k. search (rules, tests)))
+    ∙ ap length (taken-is is_und (reverse t))

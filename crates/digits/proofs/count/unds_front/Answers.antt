@@ -1,26 +1,18 @@
--- `digits::count::unds_front` meets its contract. The invariant: the bytes passed and the `_` in front of what is left make up the `_` in front.
+-- `digits::count::unds_front` meets its contract: the chain counts what the library's `take_while` gives.
 -- Assumes nothing.
-use native.Mathlib.Omega.{arith}
+use Rattle.std.proofs.Common.{eqb, ap, ◌∙◌, rules, tests, length}
+use Rattle.std.proofs.lemmas.Iterator.{YieldsList-from_slice}
+use Rattle.std.proofs.lemmas.Iterator.Consumers.{count_from_yields_List}
+use Rattle.std.proofs.lemmas.Iterator.Search.{YieldsList-from_take_while}
 use Rattle.digits.specs.Meaning.{is_und}
-use Rattle.digits.proofs.Turns.{turn, end-front, und-yes, und-no, while-more, while-stop, while-end}
+use Rattle.digits.proofs.Ends.{taken-is}
 use Rattle.digits.proofs.count.unds_front.Goals as goal
 
-pub returns-then-run-i-ne95 : goal.returns-then-run-i-ne95
-returns-then-run-i-ne95 c =
-    let t = c.args.run.now in
-    let i = c.loop-i.i in
-    let e = turn t i (omega arith) in
-    omega (arith, while-stop e is_und (und-no _ c.if-run-i-ne95.true))
-
-pub loop-i-preserved : goal.loop-i-preserved
-loop-i-preserved c =
-    let t = c.args.run.now in
-    let i = c.loop-i.i in
-    let e = turn t i (omega arith) in
-    (omega arith, omega (arith, while-more e is_und (und-yes _ (omega arith))))
-
 pub returns : goal.returns
+unfolding is_und
 returns c =
     let t = c.args.run.now in
-    let i = c.loop-i.i in
-    omega (arith, while-end (end-front t i (omega arith)) is_und)
+    count_from_yields_List c.take_while.result _ c.count.ensures.ran
+    (YieldsList-from_take_while _ (λ b. eqb b 95) (YieldsList-from_slice t cc)
+    c.take_while.ensures.closure c.take_while.ensures.done (λ x b q k. search (rules, tests)))
+    ∙ ap length (taken-is is_und t)

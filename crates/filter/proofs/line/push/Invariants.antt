@@ -2,17 +2,14 @@
 -- and the sample in hand is the next. The measure is what is left. Assumes nothing.
 use mathlib.Core.Path.{◌≡◌}
 use mathlib.Core.List.{◌∷◌, ◌++◌}
-use Prim.Native.Nat.{◌-◌, ◌≤◌}
+use Prim.Native.Nat.{◌≤◌}
 use lib.IntN.{pos}
 use lib.ListN.{length, take, drop, get_or}
 use Rattle.filter.specs.Meaning.{most_taps}
 use Rattle.filter.proofs.line.push.Given as goal
 
-abbrev pub invariant-loop-i : goal.invariant-loop-i
-invariant-loop-i l =
-    (l.i ≤ most_taps)
+abbrev pub invariant-loop-place : goal.invariant-loop-place
+invariant-loop-place l =
+    (l.place-index ≤ most_taps)
     × ((length l.initial.line ≡ most_taps)
-    × ((l.line ≡ take l.i (l.x ∷ l.initial.line) ++ drop l.i l.initial.line) × (l.carried ≡ get_or (l.x ∷ l.initial.line) l.i (pos 0))))
-
-abbrev pub decreases-loop-i : goal.decreases-loop-i
-decreases-loop-i l = most_taps - l.i
+    × ((l.line ≡ take l.place-index (l.x ∷ l.initial.line) ++ drop l.place-index l.initial.line) × (l.carried ≡ get_or (l.x ∷ l.initial.line) l.place-index (pos 0))))

@@ -1,5 +1,5 @@
 -- `sum::dot` meets its contract. The loop's invariant: the sum so far and what is left to sum are the whole sum, and the sum so far is at most
--- 2 ^ 30 for each product in it. The measure is what is left of the taps. Assumes nothing.
+-- 2 ^ 30 for each product in it. Assumes nothing.
 use mathlib.Core.Path.{◌≡◌, ◌∙◌}
 use mathlib.Core.List.{List}
 use Prim.Native.Nat.{ℕ, ◌+◌, ◌*◌, ◌^◌, ◌≤◌}

@@ -1,55 +1,38 @@
--- `sum::hold` meets its contract: the code makes the tests of the range, on `y` as it is read back from its bits. Assumes nothing.
-use mathlib.Core.Path.{◌≡◌}
-use mathlib.Core.Bool.{true, false}
-use lib.Signed.{lt_z}
-use mir.Syntax.{w16, w64}
-use mir.Val.{SFits}
-use mir.Facts.{to_z-of_z}
-use Rattle.format.specs.Meaning.{signed, lowest, highest}
-use Rattle.filter.specs.Range.{Sample, below-clips, above-clips, between, sample-keeps, sample-sfits}
+-- `sum::hold` meets its contract: clamped, a number is held, and the flag is set exactly where that is another number. Assumes nothing.
+use Rattle.std.proofs.Common.{◌≡◌, refl, sym, ◌∙◌, Bool, true, false, not, ℤ, pos, negsuc, eqb, arith, SFits, to_z, of_z, w16, w64}
+use Rattle.std.specs.Int.{int_max, int_min}
+use Rattle.std.proofs.Math.Facts.{to_z-of_z, sfits_widen}
+use Rattle.std.proofs.lemmas.Int.{ints, clamps}
+use Rattle.laws.specs.Signed.{of_z-inj}
+use borrow.Author.Tests.{eqb-true}
+use Rattle.format.specs.Meaning.{lowest, highest, hold}
+use Rattle.filter.specs.Meaning.{held, clips}
+use Rattle.filter.specs.Range.{sample-sfits, sample-keeps, unclipped, held-sample}
+use Rattle.filter.specs.Theorems.{clips-changed}
 use Rattle.filter.proofs.sum.hold.Goals as goal
-use Rattle.filter.proofs.sum.hold.Goals.{Else-y-gt32767, Else-y-ltminus32768, Then-y-gt32767, Then-y-ltminus32768}
 
--- the tests' outcomes, of y itself
-below : (c : Then-y-ltminus32768) → lt_z c.args.y (lowest signed 16) ≡ true
-unfolding lowest
-below c = rw (to_z-of_z {w = w64} c.ranges.y) at c.if-y-ltminus32768.true
+clamped : (y : ℤ) → int_max (negsuc 32767) (int_min y (pos 32767)) ≡ held y
+unfolding held hold lowest highest
+clamped y = grind (arith, ints, clamps)
 
-not-below : (c : Else-y-ltminus32768) → lt_z c.args.y (lowest signed 16) ≡ false
-unfolding lowest
-not-below c = rw (to_z-of_z {w = w64} c.ranges.y) at c.if-y-ltminus32768.false
-
-above : (c : Then-y-gt32767) → lt_z (highest signed 16) c.args.y ≡ true
-unfolding highest
-above c = rw (to_z-of_z {w = w64} c.ranges.y) at c.if-y-gt32767.true
-
-not-above : (c : Else-y-gt32767) → lt_z (highest signed 16) c.args.y ≡ false
-unfolding highest
-not-above c = rw (to_z-of_z {w = w64} c.ranges.y) at c.if-y-gt32767.false
-
--- where neither test held, y is a sample, a number of 16 bits
-inside : (c : Else-y-gt32767) → Sample c.args.y
-inside c = between c.args.y (not-below c.before) (not-above c)
-
-within : (c : Else-y-gt32767) → SFits w16 c.args.y
-within c = sample-sfits c.args.y (inside c)
-
-pub returns-then-y-ltminus32768 : goal.returns-then-y-ltminus32768
-unfolding lowest
-returns-then-y-ltminus32768 c =
-    let h = below-clips c.args.y (below c) in
-    rw (h.0, h.1)
-
-pub returns-then-y-gt32767 : goal.returns-then-y-gt32767
-unfolding highest
-returns-then-y-gt32767 c =
-    let h = above-clips c.args.y (above c) in
-    rw (h.0, h.1)
-
-pub overflow_cast-result : goal.overflow_cast-result
-overflow_cast-result c = rw (to_z-of_z {w = w64} c.ranges.y) (within c)
+-- the flag, with the two numbers compared as words
+flagged : (y r : ℤ) → SFits w64 y → SFits w64 r → r ≡ held y → not (eqb (of_z w64 r) (of_z w64 y)) ≡ clips y
+flagged y r f g e = go (eqb (of_z w64 r) (of_z w64 y)) refl (clips y) refl
+  where
+    go : (a : Bool) → eqb (of_z w64 r) (of_z w64 y) ≡ a → (b : Bool) → clips y ≡ b → not a ≡ b
+    go true p true q = absurd ((clips-changed y).0 q (sym e ∙ of_z-inj g f (eqb-true _ _ p)))
+    go true p false q = refl
+    go false p true q = refl
+    go false p false q =
+        let same : r ≡ y = e ∙ (sample-keeps y (unclipped y q)).1 in
+        let words : of_z w64 r ≡ of_z w64 y = rw same refl in
+        grind arith
 
 pub returns : goal.returns
 returns c =
-    let h = sample-keeps c.args.y (inside c) in
-    rw (to_z-of_z {w = w64} c.ranges.y, to_z-of_z {w = w16} (within c), h.0, h.1)
+    let y = c.args.y in
+    let fits = sample-sfits (held y) (held-sample y) in
+    let value : c.clamp-value.result ≡ held y = c.clamp-value.ensures.value ∙ (rw (to_z-of_z {w = w64} c.ranges.y) (clamped y)) in
+    let word : to_z w64 (of_z w64 c.clamp-value.result) ≡ held y = rw value (to_z-of_z {w = w64} (sfits_widen tt fits)) in
+    let same : c.from.result ≡ held y = c.from.ensures ∙ (rw word (to_z-of_z {w = w16} fits)) in
+    rw (word, to_z-of_z {w = w16} fits, flagged y c.from.result c.ranges.y (rw same (sfits_widen tt fits)) same) refl

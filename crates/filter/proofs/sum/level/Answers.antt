@@ -6,11 +6,6 @@ use Rattle.laws.specs.Signed.{ok-back}
 use Rattle.filter.specs.Meaning.{level_of}
 use Rattle.filter.proofs.sum.level.Goals as goal
 
-pub round-requires : goal.round-requires
-round-requires c =
-    let sum = c.dot in
-    rw (ok-back w64 sum.result sum.type_inv) sum.ensures.bound
-
 pub returns : goal.returns
 unfolding level_of
 returns c =

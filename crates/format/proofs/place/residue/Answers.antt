@@ -1,18 +1,17 @@
--- `format::place::residue` meets its contract: the mask takes the remainder, and each return is a case of the definition.
+-- `place::residue` meets its contract: the mask takes the remainder, and each return is a case of the definition.
 -- Assumes nothing.
-use native.Mathlib.Omega.{arith}
-use lib.Bits.{and_le_r}
-use Rattle.format.specs.Place.{residue-none, residue-rest, residue-low}
+use Rattle.std.proofs.Common.{sym, ◌∙◌, true≢false}
+use Rattle.format.specs.Place.{residue-rest, residue-same}
 use Rattle.format.proofs.place.residue.Goals as goal
+use Rattle.format.proofs.place.residue.Goals.{else-neg-via-then-neg+else-bits-ne0, else-neg-via-else-neg}
 
-pub returns-then-bits-eq0 : goal.returns-then-bits-eq0
-returns-then-bits-eq0 c = search (residue-none)
+pub returns-then-bits-ne0 : goal.returns-then-bits-ne0
+returns-then-bits-ne0 c = search (residue-rest)
 
-pub overflow_sub-result-then-neg : goal.overflow_sub-result-then-neg
-overflow_sub-result-then-neg c = omega (arith, and_le_r c.args.low c.top-all.result)
-
-pub returns-then-neg : goal.returns-then-neg
-returns-then-neg c = search (residue-rest)
-
-pub returns : goal.returns
-returns c = search (residue-low)
+pub returns-else-neg : goal.returns-else-neg
+returns-else-neg c =
+    residue-same _ _ _ c.top-all.ensures
+    (elim c.else-neg.branch [
+      | else-neg-via-then-neg+else-bits-ne0 w ↦ λ t. w.if-bits-ne0.false
+      | else-neg-via-else-neg w ↦ λ t. absurd (true≢false (sym t ∙ w.if-neg.false))
+    ])

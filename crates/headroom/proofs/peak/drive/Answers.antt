@@ -1,4 +1,4 @@
--- `peak::drive` meets its contract. The loop's invariant: the first i places hold the driven samples of the first i taps. The measure is what is left.
+-- `peak::drive` meets its contract. The loop's invariant: the first i places hold the driven samples of the first i taps.
 -- Assumes nothing.
 use mathlib.Core.Path.{◌≡◌, refl, ◌∙◌}
 use native.Mathlib.Omega.{arith}
@@ -18,12 +18,12 @@ loop-i-preserved c =
     let taps = c.args.taps.now in
     let i = c.loop-i.i in
     let inv = c.loop-i.invariant in
-    let told = rw (ok-back w16 (get_or taps i (pos 0)) (omega arith)) at c.driven-s.ensures in (
+    let told = rw (ok-back w16 (get_or taps i (pos 0)) (omega arith)) at c.driven.ensures in (
       omega arith,
       (
         simp length-set inv.1.0,
         map-step _ taps c.loop-i.line i (pos 0) _ (omega arith) (omega arith) inv.1.1
-            (ok-back w16 c.driven-s.result c.driven-s.type_inv ∙ told),
+            (ok-back w16 c.driven.result c.driven.type_inv ∙ told),
       ),
     )
 
@@ -31,4 +31,4 @@ pub returns : goal.returns
 returns c =
     let end : c.loop-i.i ≡ length c.args.taps.now = omega arith in
     let all = take-length c.args.taps.now in
-    (c.loop-i.invariant.1.0, rw (end, all) at c.loop-i.invariant.1.1)
+    rw (end, all) at c.loop-i.invariant.1.1

@@ -1,19 +1,15 @@
 -- `scan::literal::digits_at` meets its contract: after the prefix and its `_`, or at once. Assumes nothing.
-use Rattle.scan.specs.Literal.{digits-bare, digits-room, digits-prefixed}
+use Rattle.std.proofs.Common.{arith}
+use Rattle.scan.specs.Literal.{digits-room, digits-fit, digits-prefixed}
 use Rattle.scan.proofs.literal.digits_at.Goals as goal
 
-pub returns-then-radix-eq10 : goal.returns-then-radix-eq10
-returns-then-radix-eq10 c =
-    let a = c.args in
-    (c.requires.0, digits-bare a.text.now a.from a.radix c.requires.1 c.if-radix-eq10.true)
+pub slice_bounds-underscores-count : goal.slice_bounds-underscores-count
+slice_bounds-underscores-count c = omega (arith, digits-room c.args.text.now c.requires c.if-radix-eq10.false)
 
-pub past_underscores-requires : goal.past_underscores-requires
-past_underscores-requires c =
-    let a = c.args in
-    digits-room a.text.now a.from a.radix c.requires.1 c.requires.0 c.if-radix-eq10.false
+pub slice_bounds-underscores-start : goal.slice_bounds-underscores-start
+slice_bounds-underscores-start c = omega (arith, digits-room c.args.text.now c.requires c.if-radix-eq10.false)
 
-pub returns : goal.returns
-returns c =
-    let a = c.args in
-    let e = c.past_underscores.ensures in
-    (e.0, digits-prefixed a.text.now a.from a.radix c.requires.1 c.past_underscores.result c.if-radix-eq10.false e.1)
+pub returns-else-radix-eq10 : goal.returns-else-radix-eq10
+returns-else-radix-eq10 c =
+    let t = c.args.text.now in
+    (digits-fit t c.requires c.if-radix-eq10.false c.underscores.ensures, digits-prefixed t c.requires c.if-radix-eq10.false c.underscores.ensures)

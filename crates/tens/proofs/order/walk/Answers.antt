@@ -1,57 +1,30 @@
--- `order::walk` meets its contract. The invariant: the digits that are left compare with the rest as all do with the start, and `left` counts them.
--- Assumes nothing.
-use Rattle.std.proofs.Common.{rules}
-use mathlib.Core.Path.{refl}
-use native.Mathlib.Omega.{arith}
-use Rattle.wide.specs.Meaning.{Words}
-use Rattle.tens.specs.Walk.{walk-less, walk_more, walk-next, walk_same, walk-above, walk-below, next-length}
+-- `order::walk` meets its contract. The invariant: the digits that are left compare with the rest as all do with the start. Assumes nothing.
+use Rattle.std.proofs.Common.{rules, ◌∙◌, arith, ◌<◌, Equal, Less}
+use Rattle.std.specs.Cmp.{nat_cmp_is}
+use Rattle.wide.specs.Meaning.{value_of}
+use Rattle.tens.specs.Walk.{walk-stop, walk-next, walk-end}
+use Rattle.tens.proofs.order.walk.Goals.{else-rest-eq0-via-then-rest-eq0+else-rest-eq0-2, else-rest-eq0-via-else-rest-eq0}
 use Rattle.tens.proofs.order.walk.Goals as goal
 
-pub loop-left-init : goal.loop-left-init
-loop-left-init c = (search rules, search rules, refl)
+pub returns-then-digit-rest : goal.returns-then-digit-rest
+returns-then-digit-rest c =
+    let l = c.loop-digit in
+    c.cmp.ensures ∙ walk-stop l.rest l.invariant.1 l.invariant.0 _ _ c.in-Some.ensures.steps c.if-digit-rest.true
 
-pub returns-then-next-rest : goal.returns-then-next-rest
-returns-then-next-rest c =
-    let l = c.loop-left in
-    let t = c.args.body.now in
-    let w : Words l.rest = record { high = c.struct_known-in-loop-left-1.given.0.fits; low = c.struct_known-in-loop-left-1.given.1.0.fits } in
-    walk-less t l.at w l.invariant.2 c.next_digit-next.ensures (omega arith) c.if-next-rest.true
-
-pub returns-then-rest-next : goal.returns-then-rest-next
-returns-then-rest-next c =
-    let l = c.loop-left in
-    let t = c.args.body.now in
-    let w : Words l.rest = record { high = c.struct_known-in-loop-left-1.given.0.fits; low = c.struct_known-in-loop-left-1.given.1.0.fits } in
-    walk_more t l.at w l.invariant.2 c.next_digit-next.ensures (omega arith) c.if-rest-next.true
-
-pub loop-left-preserved : goal.loop-left-preserved
-loop-left-preserved c =
-    let l = c.loop-left in
-    let t = c.args.body.now in
-    let w : Words l.rest = record { high = c.struct_known-in-loop-left-1.given.0.fits; low = c.struct_known-in-loop-left-1.given.1.0.fits } in
-    let next = c.next_digit-next.ensures in (
-      next.within,
-      next-length next l.invariant.1,
-      walk-next t l.at w l.invariant.2 next (omega arith) c.if-next-rest.false c.if-rest-next.false c.mul-rest.ensures,
+pub loop-digit-preserved : goal.loop-digit-preserved
+loop-digit-preserved c =
+    let l = c.loop-digit in (
+      record { high = search rules; low = search rules },
+      walk-next l.rest l.invariant.1 l.invariant.0 _ _ c.in-Some.ensures.steps c.if-digit-rest.false c.mul-rest.ensures,
     )
 
-pub returns-then-rest-ne0 : goal.returns-then-rest-ne0
-returns-then-rest-ne0 c =
-    let l = c.loop-left in
-    let t = c.args.body.now in
-    let w : Words l.rest = record { high = c.struct_known-2-1.given.0.fits; low = c.struct_known-2-1.given.1.0.fits } in
-    walk-above t l.at w l.invariant.2 (omega arith) c.if-rest-ne0.true
+pub returns-then-rest-eq0-2 : goal.returns-then-rest-eq0-2
+returns-then-rest-eq0-2 c =
+    walk-end c.loop-digit.rest c.loop-digit.invariant.1 c.in-None.ensures.steps.0 (nat_cmp_is 0 (value_of c.loop-digit.rest) Equal (omega arith))
 
-pub returns-then-rest-ne0-2 : goal.returns-then-rest-ne0-2
-returns-then-rest-ne0-2 c =
-    let l = c.loop-left in
-    let t = c.args.body.now in
-    let w : Words l.rest = record { high = c.struct_known-2-1.given.0.fits; low = c.struct_known-2-1.given.1.0.fits } in
-    walk-below t l.at w l.invariant.2 (omega arith) c.if-rest-ne0-2.true
-
-pub returns : goal.returns
-returns c =
-    let l = c.loop-left in
-    let t = c.args.body.now in
-    let w : Words l.rest = record { high = c.struct_known-2-1.given.0.fits; low = c.struct_known-2-1.given.1.0.fits } in
-    walk_same t l.at w l.invariant.2 (omega arith) c.if-rest-ne0.false c.if-rest-ne0-2.false
+pub returns-else-rest-eq0 : goal.returns-else-rest-eq0
+returns-else-rest-eq0 c =
+    let some : 0 < value_of c.loop-digit.rest = elim c.else-rest-eq0.branch [
+      | else-rest-eq0-via-then-rest-eq0+else-rest-eq0-2 w ↦ omega arith
+      | else-rest-eq0-via-else-rest-eq0 w ↦ omega arith
+    ] in walk-end c.loop-digit.rest c.loop-digit.invariant.1 c.in-None.ensures.steps.0 (nat_cmp_is 0 (value_of c.loop-digit.rest) Less some)

@@ -1,16 +1,11 @@
--- `to_float::encode::place` meets its contract: the place is not negative, and small. Assumes nothing.
+-- `to_float::encode::place` meets its contract: the place is not negative. Assumes nothing.
 use native.Mathlib.Omega.{arith}
-use Rattle.to_float.proofs.Encodes.{place-bounds}
+use Rattle.float.specs.Formats.{frac_within}
+use Rattle.to_float.specs.Encoding.{roomy-least}
 use Rattle.to_float.proofs.encode.place.Goals as goal
 
-pub least-requires : goal.least-requires
-least-requires c = c.requires.0.small
-
 pub overflow_sub-result : goal.overflow_sub-result
-overflow_sub-result c = omega (arith, c.least.ensures, place-bounds _ _ c.requires.0, c.requires.2)
-
-pub overflow_add-result : goal.overflow_add-result
-overflow_add-result c = record { fits = omega (arith, c.least.ensures, place-bounds _ _ c.requires.0, c.requires.1) }
+overflow_sub-result c = omega (arith, c.least.ensures, roomy-least _ _ c.args.binary.room, frac_within _ _ c.args.format.one_of_four c.args.format.within)
 
 pub overflow_sub-result-2 : goal.overflow_sub-result-2
-overflow_sub-result-2 c = omega (arith, c.least.ensures, place-bounds _ _ c.requires.0, c.requires.2)
+overflow_sub-result-2 c = omega (arith, c.least.ensures, roomy-least _ _ c.args.binary.room, frac_within _ _ c.args.format.one_of_four c.args.format.within)

@@ -1,0 +1,2 @@
+-- Passed on.
+unfoldable pub use Rattle.format.specs.Meaning.{is_width}

@@ -1,0 +1,98 @@
+// A line: the letter of its kind, then numbers, and last a text.
+ghost use Rattle.std.specs.Prelude.{◌≤◌};
+
+use crate::hex::Text;
+
+// The format stands in every line. What follows is the kind's own: reader.rt, logarithm.rt.
+pub(crate) const SIGNED: usize = 0;
+
+pub(crate) const WIDTH: usize = 1;
+
+pub(crate) const FRAC: usize = 2;
+
+// How many numbers a line has at most; what follows is the text.
+const NUMBERS: usize = 8;
+
+// The greatest number whose tenfold is a word.
+const TENTH: u64 = 1844674407370955161;
+
+// A number by its magnitude.
+#[derive(Clone, Copy)]
+pub(crate) struct Number {
+    pub below: bool,
+    pub size: u64,
+}
+
+// `at` counts the fields before the one that comes: none before the kind's letter.
+#[derive(Drop)]
+pub(crate) struct Line {
+    pub kind: u8,
+    pub numbers: [Number; NUMBERS],
+    pub text: Text,
+    pub at: usize,
+    ghost inside: { at ≤ 9 },
+}
+
+// A field that is not there is 0.
+const NONE: Number = Number {
+    below: false,
+    size: 0,
+};
+
+impl Line {
+    pub(crate) fn new() -> Line {
+        Line {
+            kind: 0,
+            numbers: [NONE; NUMBERS],
+            text: Text::new(),
+            at: 0,
+        }
+    }
+
+    // A new line: of the one before nothing is left.
+    pub(crate) fn clear(&mut self) {
+        self.kind = 0;
+        self.numbers = [NONE; NUMBERS];
+        self.text.clear();
+        self.at = 0;
+    }
+
+    // The next field. Further blanks, as a comment has, stay in the last.
+    pub(crate) fn next(&mut self) {
+        if self.at <= NUMBERS {
+            self.at += 1;
+        }
+    }
+
+    // One more byte of a field: the letter, a sign or a digit of a number, a digit of the text.
+    pub(crate) fn put(&mut self, b: u8) {
+        if self.at == 0 {
+            self.kind = b;
+        } else if self.at <= NUMBERS {
+            let number = self.numbers[self.at - 1];
+            self.numbers[self.at - 1] = longer(number, b);
+        } else {
+            self.text.put(b);
+        }
+    }
+}
+
+// A number with one digit more, or a sign. Beyond a word, where no stored number is, it is some other.
+fn longer(n: Number, b: u8) -> Number {
+    if b == b'-' {
+        return Number { below: true, ..n };
+    }
+    let size = if n.size <= TENTH {
+        (n.size * 10).wrapping_add(u64::from(b.saturating_sub(b'0')))
+    } else {
+        0
+    };
+    Number { size, ..n }
+}
+
+impl Number {
+    // As a number of 32 bits, or the greatest, which is no width, no place of the point and no radix.
+    pub(crate) fn small(self) -> u32 {
+        u32::try_from(self.size).unwrap_or(u32::MAX)
+    }
+}
