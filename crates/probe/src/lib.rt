@@ -3,6 +3,7 @@
 // scanner against the automaton of docs/GRAMMAR.md.
 #![tactic(auto)]
 
+use format::Refusal;
 use scan::{Found, Parsed};
 
 #[repr(C)]
@@ -58,8 +59,8 @@ fn number(p: Parsed, radix: u32) -> Probe {
 
 fn shown(found: Found, radix: u32) -> Probe {
     match found {
-        Found::Number(p) => number(p, radix),
-        Found::Refused(n) => refused(n, radix),
+        Ok(p) => number(p, radix),
+        Err(refusal) => refused(refusal.number(), radix),
     }
 }
 
@@ -68,12 +69,11 @@ pub extern "C" fn probe_plain(text: &[u8], radix: u32) -> Probe {
     if grammar::is_radix(radix) {
         return shown(scan::plain(text, radix), radix);
     }
-    refused(3, radix)
+    refused(Refusal::WrongRadix.number(), radix)
 }
 
 #[unsafe(no_mangle)]
 pub extern "C" fn probe_literal(text: &[u8], signed: u32) -> Probe {
     let written = scan::literal::literal(text, signed != 0);
-    let found = written.found;
-    shown(found, written.radix)
+    shown(written.found, written.radix)
 }

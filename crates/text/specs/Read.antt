@@ -1,27 +1,31 @@
 -- From what the scanner finds to the reader's outcome: the early refusals, the number's places handed on, and that the result is the
 -- meaning's. Assumes nothing.
-use Rattle.std.specs.Prelude.{◌≡◌, refl, Bool, true, false, cond, List, ℕ, ◌+◌, ◌*◌, ◌^◌, ◌≤◌, leb, eqb, length}
+use Rattle.std.specs.Prelude.{◌≡◌, refl, Ok, Err, Bool, true, false, cond, List, ℕ, ◌+◌, ◌*◌, ◌^◌, ◌≤◌, ◌<◌, leb, eqb, length}
+use Rattle.std.specs.Result.{IsErrAnd}
+use Rattle.std.proofs.lemmas.Result.{err_from_is_err_and}
 use Rattle.std.proofs.Math.Path.{sym, ap}
-use Rattle.std.proofs.Common.{◌∙◌, subst, arith, leb-true, eqb-true, eq-eqb, ne_eqb}
+use Rattle.std.proofs.Common.{◌∙◌, subst, arith, leb-true, eqb-true, ne_eqb}
 use Rattle.std.proofs.lemmas.Bool.{eqb-false}
+use borrow.Author.Tests.{le-leb, lt-leb}
 use Rattle.format.specs.declared.Manner.{Manner}
 use Rattle.format.specs.declared.Manner.TheVariants.{Strict}
-use Rattle.format.specs.Meaning.{Sign, Outcome, refused, unless, fault_of, is_width, settle, with_sign, exact, guarded}
+use Rattle.format.specs.declared.refusal.Refusal.{Refusal}
+use Rattle.format.specs.declared.refusal.Refusal.TheVariants.{WrongRadix, TooLong}
+use Rattle.format.specs.Meaning.{Sign, Kind, Answered, Outcome, refused, unless, fault_of, is_width, settle, with_sign, exact, guarded, answered, number, named}
+use Rattle.format.specs.Checked.{Opens, Refuses}
+use Rattle.format.specs.Answer.{exit-answered, pass-answered, refused-answered, named-number}
 use Rattle.format.specs.Fault.{fault-free, width-bounds}
-use Rattle.format.specs.Settle.{unless-fault, unless-none}
 use Rattle.grammar.specs.Meaning.{Reading, plain_reading, literal_body, literal_radix, literal_reading, raw_of, outcome_of, is_radix, text_limit, read_of, literal_of}
 use Rattle.grammar.specs.Automaton.{NumberPart, Seen}
 use Rattle.grammar.specs.Accepted.{Sound, Says, says-numbered, prefix-legal}
 use Rattle.grammar.specs.Agrees.{plain-says, literal-says}
 use Rattle.scan.specs.Literal.{FindsLiteral}
 use Rattle.scan.specs.declared.literal.Written.{Written as LiteralWritten}
-use Rattle.scan.specs.Found.{written_of, Ready, Finds, finds, refuses}
+use Rattle.scan.specs.Found.{Found, written_of, Ready, Finds, finds, refuses}
 use Rattle.fold.specs.declared.Folded.{Folded}
 use Rattle.fold.specs.Fold.{fold_of, folded_value, bit}
 use Rattle.text.specs.Theorems.{settle-folded}
 use Rattle.scan.specs.declared.Parsed.{Parsed}
-use Rattle.scan.specs.declared.Found.{Found}
-use Rattle.scan.specs.declared.Found.TheVariants.{Number, Refused}
 
 -- ---- the refusals before the text, 0 for none
 unfoldable pub text_fault : ℕ → ℕ
@@ -68,26 +72,45 @@ literal-early s w f t =
     go false = refl
 
 -- and as the code finds them
-module _ (w f radix n : ℕ) {fault : ℕ} (e : fault ≡ fault_of w f) where
-  pub early-format : (fault ≡ 0 → ⊥) → fault ≡ early_plain w f radix n
-  unfolding early_plain
-  early-format h = rw (ne_eqb (fault_of w f) 0 (λ z. h (e ∙ z))) e
+pub length-short : (n : ℕ) → n ≤ text_limit → text_fault n ≡ 0
+unfolding text_fault
+length-short n h = rw (le-leb n text_limit h)
 
-  pub early-radix : {g : Bool} → fault ≡ 0 → g ≡ is_radix radix → g ≡ false → 3 ≡ early_plain w f radix n
-  unfolding early_plain
-  early-radix z q h = rw (eq-eqb (fault_of w f) 0 (sym e ∙ z), sym q ∙ h)
+pub length-long : (n : ℕ) → text_limit < n → Refuses (text_fault n) TooLong
+unfolding text_fault named
+length-long n h = rw (lt-leb n text_limit h) (record { fault = λ z. omega arith; named_is = refl })
 
-  pub early-length : {g : Bool} {r : ℕ} → fault ≡ 0 → g ≡ is_radix radix → g ≡ true → r ≡ text_fault n → r ≡ early_plain w f radix n
+module _ (w f radix n : ℕ) where
+  pub early-format : {e : Refusal} → Refuses (fault_of w f) e → Refuses (early_plain w f radix n) e
   unfolding early_plain
-  early-length z q h l = rw (eq-eqb (fault_of w f) 0 (sym e ∙ z), sym q ∙ h) l
+  early-format r = rw (ne_eqb (fault_of w f) 0 r.fault) r
 
-  pub early-literal-format : (fault ≡ 0 → ⊥) → fault ≡ early_literal w f n
+  pub early-radix : {g : Bool} → fault_of w f ≡ 0 → g ≡ is_radix radix → g ≡ false → Refuses (early_plain w f radix n) WrongRadix
+  unfolding early_plain named
+  early-radix z q h = rw (z, sym q ∙ h) (record { fault = λ z. omega arith; named_is = refl })
+
+  pub early-length : {g : Bool} {e : Refusal} → fault_of w f ≡ 0 → g ≡ is_radix radix → g ≡ true → Refuses (text_fault n) e
+      → Refuses (early_plain w f radix n) e
+  unfolding early_plain
+  early-length z q h r = rw (z, sym q ∙ h) r
+
+  pub early-opens : {g : Bool} {v h : ℕ} → Opens (fault_of w f) w f v h → g ≡ is_radix radix → g ≡ true → text_fault n ≡ 0
+      → Opens (early_plain w f radix n) w f v h
+  unfolding early_plain
+  early-opens o q h l = record { free = rw (o.free, sym q ∙ h) l; width_is = o.width_is; frac_is = o.frac_is }
+
+module _ (w f n : ℕ) where
+  pub literal-format : {e : Refusal} → Refuses (fault_of w f) e → Refuses (early_literal w f n) e
   unfolding early_literal
-  early-literal-format h = rw (ne_eqb (fault_of w f) 0 (λ z. h (e ∙ z))) e
+  literal-format r = rw (ne_eqb (fault_of w f) 0 r.fault) r
 
-  pub early-literal-length : {r : ℕ} → fault ≡ 0 → r ≡ text_fault n → r ≡ early_literal w f n
+  pub literal-length : {e : Refusal} → fault_of w f ≡ 0 → Refuses (text_fault n) e → Refuses (early_literal w f n) e
   unfolding early_literal
-  early-literal-length z l = rw (eq-eqb (fault_of w f) 0 (sym e ∙ z)) l
+  literal-length z r = rw z r
+
+  pub literal-opens : {v h : ℕ} → Opens (fault_of w f) w f v h → text_fault n ≡ 0 → Opens (early_literal w f n) w f v h
+  unfolding early_literal
+  literal-opens o l = record { free = rw o.free l; width_is = o.width_is; frac_is = o.frac_is }
 
 -- what no early refusal tells
 pub record Fine (w f n : ℕ) : Type 0 where
@@ -130,46 +153,38 @@ pub record Readable (t : List ℕ) (p : Parsed) (radix frac : ℕ) : Type 0 wher
   pub short : length t ≤ text_limit
   pub room : frac ≤ 64
 
-pub data Sane (t : List ℕ) (radix frac : ℕ) : Found → Type 0 where
-  sane : {p : Parsed} → Readable t p radix frac → Sane t radix frac (Number p)
-  no_number : {n : ℕ} → Sane t radix frac (Refused n)
-
 -- ---- the outcome from what was found
 unfoldable pub number_outcome : Manner → Sign → ℕ → ℕ → ℕ → List ℕ → Parsed → Outcome
 number_outcome k s w f radix t p = settle k s w (with_sign p.neg (raw_of radix f (written_of t p)))
 
-unfoldable pub found_outcome : Manner → Sign → ℕ → ℕ → ℕ → List ℕ → Found → Outcome
-found_outcome k s w f radix t (Number p) = number_outcome k s w f radix t p
-found_outcome k s w f radix t (Refused n) = refused n
-
--- what was found is what the meaning reads
-module _ (k : Manner) (s : Sign) (w f radix : ℕ) (t : List ℕ) where
-  pub found-outcome : (found : Found) {y : Reading} → Finds t found y → found_outcome k s w f radix t found ≡ outcome_of k s w f radix y
-  unfolding found_outcome number_outcome outcome_of written_of
-  found-outcome (Number p) (finds e r) = ap (outcome_of k s w f radix) (sym e)
-  found-outcome (Refused n) (refuses e) = ap (outcome_of k s w f radix) (sym e)
-
--- and a number that was found can be read
+-- a number that was found can be read
 module _ (t : List ℕ) (radix frac : ℕ) (legal : is_radix radix ≡ true) (short : length t ≤ text_limit) (room : frac ≤ 64) where
-  pub found-sane : (found : Found) {y : Reading} → Says radix y → Finds t found y → Sane t radix frac found
-  found-sane (Number p) h (finds e r) =
+  found-readable : {p : Parsed} {y : Reading} → Says radix y → Finds t (Ok p) y → Readable t p radix frac
+  found-readable h (finds e r) =
       let numbered = says-numbered (subst (Says radix) e h) in
-      sane (record { place = numbered.part; seen = numbered.seen; sound = numbered.sound; ready = r; legal = legal; short = short; room = room })
-  found-sane (Refused n) h (refuses e) = no_number
+      record { place = numbered.part; seen = numbered.seen; sound = numbered.sound; ready = r; legal = legal; short = short; room = room }
 
-pub sane-number : {t : List ℕ} {radix frac : ℕ} {p : Parsed} → Sane t radix frac (Number p) → Readable t p radix frac
-sane-number (sane r) = r
+pub literal-found : (s : Sign) (t : List ℕ) {r : LiteralWritten} {x : Found} → FindsLiteral s t r → r.found ≡ x → Finds t x (literal_reading s t)
+literal-found s t h e = subst (λ (x : Found). Finds t x (literal_reading s t)) e h.found
+
+module _ (w f : ℕ) (t : List ℕ) {v g : ℕ} where
+  pub plain-readable : (radix : ℕ) {p : Parsed} → Opens (early_plain w f radix (length t)) w f v g → Finds t (Ok p) (plain_reading radix t)
+      → Readable t p radix g
+  plain-readable radix {p} o h =
+      let fine = plain-fine w f radix (length t) o.free in
+      subst (λ (n : ℕ). Readable t p radix n) (sym o.frac_is) (found-readable t radix f fine.1 fine.0.short fine.0.room (plain-says radix t) h)
+
+  pub literal-readable : (s : Sign) {p : Parsed} {r : LiteralWritten} → Opens (early_literal w f (length t)) w f v g → FindsLiteral s t r
+      → r.found ≡ Ok p → Readable t p r.radix g
+  literal-readable s {p} {r} o h e =
+      let fine = literal-fine w f (length t) o.free in
+      subst (λ (n : ℕ). Readable t p n g) (sym h.radix)
+      (subst (λ (n : ℕ). Readable t p (literal_radix s t) n) (sym o.frac_is)
+      (found-readable t (literal_radix s t) f (prefix-legal (literal_body s t)) fine.short fine.room (literal-says s t)
+      (literal-found s t h e)))
 
 -- ---- the outcome as the code makes it
 module _ (k : Manner) (s : Sign) (w f radix : ℕ) (t : List ℕ) where
-  pub by_number : {found : Found} {p : Parsed} → found ≡ Number p → number_outcome k s w f radix t p ≡ found_outcome k s w f radix t found
-  unfolding found_outcome
-  by_number e = ap (found_outcome k s w f radix t) (sym e)
-
-  pub by-refusal : {found : Found} {n : ℕ} → found ≡ Refused n → found_outcome k s w f radix t found ≡ refused n
-  unfolding found_outcome
-  by-refusal e = ap (found_outcome k s w f radix t) e
-
   pub settled-number : (p : Parsed) {m : Folded} {h : ℕ} → is_width w ≡ true → m ≡ fold_of (raw_of radix f (written_of t p)) → h ≡ bit m.over
       → settle k s w (exact p.neg h m.low) ≡ number_outcome k s w f radix t p
   unfolding number_outcome
@@ -178,42 +193,40 @@ module _ (k : Manner) (s : Sign) (w f radix : ℕ) (t : List ℕ) where
       ∙ ap (λ (x : Folded). settle k s w (with_sign p.neg (folded_value x))) e
       ∙ settle-folded s w p.neg (raw_of radix f (written_of t p)) width k
 
-pub sane-at-number : {t : List ℕ} {radix frac : ℕ} {found : Found} {p : Parsed} → Sane t radix frac found → found ≡ Number p → Readable t p radix frac
-sane-at-number {t} {radix} {frac} h e = sane-number (subst (Sane t radix frac) e h)
+  found-number : {p : Parsed} {y : Reading} → Finds t (Ok p) y → number_outcome k s w f radix t p ≡ outcome_of k s w f radix y
+  unfolding number_outcome outcome_of written_of
+  found-number (finds e r) = ap (outcome_of k s w f radix) (sym e)
 
--- ---- the readers whole, `fault` the early refusal that the code found
-module _ (s : Sign) (w f : ℕ) (t : List ℕ) {fault : ℕ} where
-  module _ (radix : ℕ) (e : fault ≡ early_plain w f radix (length t)) where
-    pub plain-refused : (k : Manner) → (fault ≡ 0 → ⊥) → read_of k s w f radix t ≡ refused fault
-    plain-refused k h =
-        sym (plain-early k s w f radix t) ∙ unless-fault (early_plain w f radix (length t)) (outcome_of k s w f radix (plain_reading radix t)) (λ z. h (e ∙ z))
-        ∙ ap refused (sym e)
+  found-refusal : {e : Refusal} {y : Reading} → Finds t (Err e) y → outcome_of k s w f radix y ≡ refused (number e)
+  unfolding outcome_of
+  found-refusal (refuses e) = ap (outcome_of k s w f radix) e
 
-    pub plain-reads : (k : Manner) (found : Found) → fault ≡ 0 → Finds t found (plain_reading radix t)
-        → found_outcome k s w f radix t found ≡ read_of k s w f radix t
-    plain-reads k found z h =
-        found-outcome k s w f radix t found h
-        ∙ sym (unless-none (early_plain w f radix (length t)) (outcome_of k s w f radix (plain_reading radix t)) (sym e ∙ z)) ∙ plain-early k s w f radix t
+-- ---- the readers whole: n the early refusals, y what the text means, o what the two come to
+module _ {A : Type 0} (c : Kind A) (k : Manner) (w f radix : ℕ) (t : List ℕ) {n : ℕ} (y : Reading) {o : Outcome}
+    (meant : unless n (outcome_of k c.sign w f radix y) ≡ o) {r : Answered A} where
+  -- at the exit of the early checks
+  pub early-exit : {e : Refusal} → IsErrAnd r (λ d. d ≡ e) → Refuses n e → r ≡ answered c o
+  early-exit h q = exit-answered c n (outcome_of k c.sign w f radix y) r h q ∙ ap (answered c) meant
 
-    pub plain-sane : (found : Found) → fault ≡ 0 → Finds t found (plain_reading radix t) → Sane t radix f found
-    plain-sane found z h =
-        let fine = plain-fine w f radix (length t) (sym e ∙ z) in
-        found-sane t radix f fine.1 fine.0.short fine.0.room found (plain-says radix t) h
+  -- at the exit of the scan
+  pub scan-exit : {e : Refusal} → n ≡ 0 → IsErrAnd r (λ d. d ≡ e) → Finds t (Err e) y → r ≡ answered c o
+  scan-exit {e} z h q =
+      let p = err_from_is_err_and r h in
+      pass-answered c n (outcome_of k c.sign w f radix y) z
+      (p.1 ∙ ap Err (p.2 ∙ sym (named-number e)) ∙ refused-answered c (found-refusal k c.sign w f radix t q))
+      ∙ ap (answered c) meant
 
-  module _ (e : fault ≡ early_literal w f (length t)) where
-    pub literal-refused : (fault ≡ 0 → ⊥) → literal_of s w f t ≡ refused fault
-    literal-refused h =
-        sym (literal-early s w f t) ∙ unless-fault (early_literal w f (length t)) (outcome_of Strict s w f (literal_radix s t) (literal_reading s t))
-        (λ z. h (e ∙ z)) ∙ ap refused (sym e)
+  -- and where a number was found
+  pub read-number : {v g : ℕ} {p : Parsed} → Opens n w f v g → Finds t (Ok p) y → r ≡ answered c (number_outcome k c.sign v g radix t p) → r ≡ answered c o
+  read-number {v} {g} {p} u h q =
+      pass-answered c n (outcome_of k c.sign w f radix y) u.free
+      (q ∙ ap (λ (j : ℕ). answered c (number_outcome k c.sign j g radix t p)) u.width_is
+      ∙ ap (λ (j : ℕ). answered c (number_outcome k c.sign w j radix t p)) u.frac_is
+      ∙ ap (answered c) (found-number k c.sign w f radix t h))
+      ∙ ap (answered c) meant
 
-    pub literal-reads : {r : LiteralWritten} → fault ≡ 0 → FindsLiteral s t r → found_outcome Strict s w f r.radix t r.found ≡ literal_of s w f t
-    literal-reads {r} z h =
-        ap (λ (n : ℕ). found_outcome Strict s w f n t r.found) h.radix
-        ∙ found-outcome Strict s w f (literal_radix s t) t r.found h.found
-        ∙ sym (unless-none (early_literal w f (length t)) (outcome_of Strict s w f (literal_radix s t) (literal_reading s t)) (sym e ∙ z)) ∙ literal-early s w f t
-
-    pub literal-sane : {r : LiteralWritten} → fault ≡ 0 → FindsLiteral s t r → Sane t r.radix f r.found
-    literal-sane {r} z h =
-        let fine = literal-fine w f (length t) (sym e ∙ z) in
-        subst (λ (n : ℕ). Sane t n f r.found) (sym h.radix)
-        (found-sane t (literal_radix s t) f (prefix-legal (literal_body s t)) fine.short fine.room r.found (literal-says s t) h.found)
+-- what a literal that the scanner found comes to, in the radix that it says
+pub literal-meant : (s : Sign) (w f : ℕ) (t : List ℕ) {r : LiteralWritten} → FindsLiteral s t r
+    → unless (early_literal w f (length t)) (outcome_of Strict s w f r.radix (literal_reading s t)) ≡ literal_of s w f t
+literal-meant s w f t h =
+    ap (λ (n : ℕ). unless (early_literal w f (length t)) (outcome_of Strict s w f n (literal_reading s t))) h.radix ∙ literal-early s w f t

@@ -1,40 +1,37 @@
 // The refusals that go before the text: of the format, of the radix, of the length.
-ghost use Rattle.std.specs.Prelude.{◌≡◌};
+ghost use Rattle.std.specs.Prelude.{◌≡◌, IfOk, IfErr};
+ghost use Rattle.format.specs.Checked.{Opens, Refuses};
 ghost use Rattle.text.specs.Read.{text_fault, early_plain, early_literal};
 
-const WRONG_RADIX: u32 = 3;
+use format::{Format, Refusal};
 
-const TOO_LONG: u32 = 4;
-
-// 0 where there is none.
-pub(crate) fn plain(width: u32, frac: u32, radix: u32, len: usize) -> u32
-    ensures { result ≡ early_plain width frac radix len }
+pub(crate) fn plain(width: u32, frac: u32, radix: u32, len: usize) -> Result<Format, Refusal>
+    ensures ok { IfOk result (λ x. Opens (early_plain width frac radix len) width frac x.width x.frac) }
+    ensures err { IfErr result (Refuses (early_plain width frac radix len)) }
 {
-    let fault = format::check(width, frac);
-    if fault == 0 {
-        if grammar::is_radix(radix) {
-            return length(len);
-        }
-        return WRONG_RADIX;
+    let format = Format::new(width, frac)?;
+    if !grammar::is_radix(radix) {
+        return Err(Refusal::WrongRadix);
     }
-    fault
+    length(len)?;
+    Ok(format)
 }
 
-pub(crate) fn literal(width: u32, frac: u32, len: usize) -> u32
-    ensures { result ≡ early_literal width frac len }
+pub(crate) fn literal(width: u32, frac: u32, len: usize) -> Result<Format, Refusal>
+    ensures ok { IfOk result (λ x. Opens (early_literal width frac len) width frac x.width x.frac) }
+    ensures err { IfErr result (Refuses (early_literal width frac len)) }
 {
-    let fault = format::check(width, frac);
-    if fault == 0 {
-        return length(len);
-    }
-    fault
+    let format = Format::new(width, frac)?;
+    length(len)?;
+    Ok(format)
 }
 
-fn length(len: usize) -> u32
-    ensures { result ≡ text_fault len }
+fn length(len: usize) -> Result<(), Refusal>
+    ensures ok { IfOk result (λ x. text_fault len ≡ 0) }
+    ensures err { IfErr result (Refuses (text_fault len)) }
 {
-    if len <= grammar::TEXT_LIMIT {
-        return 0;
+    if grammar::TEXT_LIMIT < len {
+        return Err(Refusal::TooLong);
     }
-    TOO_LONG
+    Ok(())
 }
