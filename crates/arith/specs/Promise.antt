@@ -3,12 +3,11 @@
 use Rattle.std.specs.Prelude.{◌≡◌, Result, Ok, Err, ℕ, ℤ}
 use Rattle.std.specs.Result.{IfOk, IfErr}
 use Rattle.format.specs.declared.Manner.{Manner}
-use Rattle.format.specs.Meaning.{Kind, Answered, answered}
+use Rattle.format.specs.Meaning.{Kind, Answered, answered, Refuses}
 use Rattle.format.specs.declared.refusal.Refusal.{Refusal}
-use Rattle.format.specs.Checked.{Refuses, new-unique}
+use Rattle.format.specs.Checked.{new-unique}
 use Rattle.laws.specs.Unique.{unique}
-use Rattle.arith.specs.Refusals.{division_fault, Divides}
-use Rattle.arith.specs.Meaning.{add_of, sub_of, neg_of, mul_of, div_of, rem_of}
+use Rattle.arith.specs.Meaning.{division_fault, Divides, add_of, sub_of, neg_of, mul_of, div_of, rem_of}
 
 module _ {A : Type 0} (c : Kind A) where
   abbrev pub Add : A → A → ℕ → ℕ → Manner → Answered A → Type 0
@@ -50,10 +49,10 @@ module _ {A : Type 0} (c : Kind A) (a b : A) (w f : ℕ) (k : Manner) {r s : Ans
   neg-unique p q = unique p q
 
 -- what `divided` says, of the width and the fraction bits that it lets through
-abbrev pub Divided : ℕ → ℕ → ℤ → Result (ℕ × ℕ) Refusal → Type 0
-Divided w f b r = IfOk r (λ x. Divides w f b x.0 x.1) × IfErr r (Refuses (division_fault w f b))
+abbrev pub Dividing : ℕ → ℕ → ℤ → Result (ℕ × ℕ) Refusal → Type 0
+Dividing w f b r = IfOk r (λ x. Divides w f b x.0 x.1) × IfErr r (Refuses (division_fault w f b))
 
-pub divided-unique : (w f : ℕ) (b : ℤ) (r s : Result (ℕ × ℕ) Refusal) → Divided w f b r → Divided w f b s → r ≡ s
+pub divided-unique : (w f : ℕ) (b : ℤ) (r s : Result (ℕ × ℕ) Refusal) → Dividing w f b r → Dividing w f b s → r ≡ s
 divided-unique w f b (Ok x) (Ok y) p q = new-unique (division_fault w f b) w f (Ok x) (Ok y) (p.0.opens, p.1) (q.0.opens, q.1)
 divided-unique w f b (Ok x) (Err e) p q = absurd (q.1.fault p.0.opens.free)
 divided-unique w f b (Err e) (Ok y) p q = absurd (p.1.fault q.0.opens.free)

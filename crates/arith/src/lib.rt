@@ -3,9 +3,9 @@
 #![tactic(auto)]
 
 ghost use Rattle.std.specs.Prelude.{IfOk, IfErr};
-ghost use Rattle.format.specs.Checked.{Refuses};
+ghost use Rattle.format.specs.Meaning.{Refuses};
 ghost use Rattle.arith.specs.Promise.{Add, Sub, Neg, Mul, Div, Rem};
-ghost use Rattle.arith.specs.Refusals.{division_fault, Divides};
+ghost use Rattle.arith.specs.Meaning.{division_fault, Divides};
 
 use exact::operand::Operand;
 use format::{Answered, Format, Manner, Raw, Refusal};

@@ -1,13 +1,9 @@
 -- The filter over lists of integers: document 01, module 7. A history is a list of samples, newest first.
 -- Assumes nothing.
-use Rattle.std.specs.Prelude.{Bool, true, false, cond, not, List, [], ◌∷◌, map, ℕ, ◌+◌, ◌^◌, leb, eqb, ℤ, pos, nat_abs, ◌+ℤ◌, ◌*ℤ◌, length, take, replicate}
+use Rattle.std.specs.Prelude.{Ok, Err, Bool, true, false, cond, not, List, [], ◌∷◌, map, ℕ, ◌+◌, ◌^◌, leb, eqb, ℤ, pos, nat_abs, ◌+ℤ◌, ◌*ℤ◌, length, take, replicate}
 use Rattle.std.specs.Int.Signed.{lt_z}
 use Rattle.laws.specs.Nearest.{nearest_even}
-use Rattle.format.specs.declared.SignedAnswer.{SignedAnswer}
-use Rattle.format.specs.declared.SignedAnswer.TheVariants.{Done as DoneS, Refused as RefusedS}
-use Rattle.format.specs.declared.UnsignedAnswer.{UnsignedAnswer}
-use Rattle.format.specs.declared.UnsignedAnswer.TheVariants.{Done as DoneU, Refused as RefusedU}
-use Rattle.format.specs.Meaning.{signed, fits, hold, guarded, with_sign}
+use Rattle.format.specs.Meaning.{signed, fits, hold, Answered, named, guarded, with_sign}
 use Rattle.filter.specs.declared.State.{State}
 use Rattle.filter.specs.declared.Stepped.{Stepped}
 
@@ -101,31 +97,35 @@ taps_fault n = cond (eqb n 0) 40 (cond (leb n most_taps) 0 40)
 unfoldable pub block_fault : ℕ → ℕ → ℕ → ℕ → ℕ
 block_fault n samples outputs clips = cond (eqb samples outputs) (cond (eqb samples clips) (taps_fault n) 5) 5
 
+-- an answer that is no refusal
+abbrev pub done_with : {A : Type 0} → A → Bool → Answered A
+done_with raw flag = Ok (record { raw = raw; flag = flag })
+
 -- What a call leaves. A step: the output with its clip flag; the state holds the new sample.
-abbrev pub stepped : SignedAnswer → List ℤ → Stepped
+abbrev pub stepped : Answered ℤ → List ℤ → Stepped
 stepped answer samples = record { answer = answer; state = state_of samples }
 
 unfoldable pub step_of : List ℤ → List ℤ → ℤ → Stepped
 step_of taps before x =
     guarded (taps_fault (length taps))
-    (λ n. stepped (RefusedS n) before)
-    (stepped (DoneS (output_of taps (next before x)) (clip_of taps (next before x))) (next before x))
+    (λ n. stepped (Err (named n)) before)
+    (stepped (done_with (output_of taps (next before x)) (clip_of taps (next before x))) (next before x))
 
 -- A run: how many outputs clipped; the state, the outputs and their clip bytes.
 pub record Ran : Type 0 where
-  pub answer : UnsignedAnswer
+  pub answer : Answered ℕ
   pub state : State
   pub outputs : List ℤ
   pub marks : List ℕ
 
-abbrev pub ran : UnsignedAnswer → State → List ℤ → List ℕ → Ran
+abbrev pub ran : Answered ℕ → State → List ℤ → List ℕ → Ran
 ran answer state outputs marks = record { answer = answer; state = state; outputs = outputs; marks = marks }
 
 abbrev pub ran_done : Run → Ran
-ran_done r = ran (DoneU (clipped r.flags) false) (state_of r.final) r.outputs (map bit_of r.flags)
+ran_done r = ran (done_with (clipped r.flags) false) (state_of r.final) r.outputs (map bit_of r.flags)
 
 unfoldable pub ran_of : List ℤ → State → List ℤ → List ℤ → List ℕ → Ran
 ran_of taps state samples outputs marks =
     guarded (block_fault (length taps) (length samples) (length outputs) (length marks))
-    (λ n. ran (RefusedU n) state outputs marks)
+    (λ n. ran (Err (named n)) state outputs marks)
     (ran_done (run_of taps (history state) samples))

@@ -1,9 +1,11 @@
 -- What is known where nothing is refused, and what a refusal, or its absence, makes of a promised outcome.
 -- Assumes nothing.
-use Rattle.std.specs.Prelude.{◌≡◌, refl, ◌⊎◌, Bool, true, false, cond, ℕ, ◌≤◌, eqb, leb}
+use Rattle.std.specs.Prelude.{◌≡◌, refl, ◌⊎◌, Ok, Err, Bool, true, false, cond, ℕ, ◌≤◌, eqb, leb}
 use Rattle.std.proofs.Common.{inl, inr, arith}
 use borrow.Author.Tests.{ne_eqb, eqb-true, leb-true}
-use Rattle.format.specs.Meaning.{guarded}
+use Rattle.format.specs.declared.refusal.Refusal.{Refusal}
+use Rattle.format.specs.Meaning.{named, guarded, checked}
+use Rattle.format.specs.Checked.{fault-checked, none-checked}
 use Rattle.filter.specs.Meaning.{most_taps, taps_fault, block_fault}
 
 -- ---- what is known where nothing is refused
@@ -24,27 +26,28 @@ same_then a b rest h = go (eqb a b) refl h
     go true e h = (eqb-true a b e, h)
     go false e h = absurd (omega arith)
 
-pub record Fit (n samples outputs clips : ℕ) : Type 0 where
+pub record Fit (samples outputs clips : ℕ) : Type 0 where
   pub outputs-fit : outputs ≡ samples
   pub clips-fit : clips ≡ samples
-  pub few : n ≤ most_taps
 
-pub block_fit : (n samples outputs clips : ℕ) → block_fault n samples outputs clips ≡ 0 → Fit n samples outputs clips
+pub block_fit : (n samples outputs clips : ℕ) → block_fault n samples outputs clips ≡ 0 → Fit samples outputs clips
 unfolding block_fault
 block_fit n samples outputs clips h =
     let a = same_then samples outputs (cond (eqb samples clips) (taps_fault n) 5) h in
     let b = same_then samples clips (taps_fault n) a.1 in
-    record { outputs-fit = omega arith; clips-fit = omega arith; few = taps-few n b.1 }
+    record { outputs-fit = omega arith; clips-fit = omega arith }
 
--- ---- what a refusal leaves, and what is done without one: r is the number that the code has
-module _ {A : Type 0} (r fault : ℕ) (refused : ℕ → A) (done : A) (e : r ≡ fault) where
-  pub refuses : (r ≡ 0 → ⊥) → refused r ≡ guarded fault refused done
+-- ---- what a refusal leaves, and what is done without one: r is what the check said
+module _ {A B : Type 0} (fault : ℕ) (a : A) (refused : Refusal → B) (done : B) where
+  pub refuses : {e : Refusal} → Err e ≡ checked fault a → refused e ≡ guarded fault (λ n. refused (named n)) done
   unfolding guarded
-  refuses n = rw (← e, ne_eqb r 0 n)
+  refuses r =
+      let f = fault-checked a r in
+      rw (ne_eqb fault 0 f.0, f.1)
 
-  pub goes_on : r ≡ 0 → done ≡ guarded fault refused done
+  pub goes_on : {b : A} → Ok b ≡ checked fault a → done ≡ guarded fault (λ n. refused (named n)) done
   unfolding guarded
-  goes_on z = rw (← e, z)
+  goes_on r = rw (none-checked a r).0
 
 -- the other way: an outcome is what is done where nothing is refused, or what a refusal leaves
 pub which : {A : Type 0} (fault : ℕ) (refused : ℕ → A) (done : A) {r : A} → r ≡ guarded fault refused done → ((fault ≡ 0) × (r ≡ done)) ⊎ (r ≡ refused fault)

@@ -2,11 +2,10 @@
 use Rattle.std.specs.Prelude.{◌≡◌, refl, ◌↔◌, Bool, true, false, List, [], ◌∷◌, ◌++◌, reverse, ℕ, ◌*◌, ◌^◌, ◌≤◌, ℤ, pos, nat_abs, ◌-ℤ◌, ◌*ℤ◌, length, take}
 use Rattle.std.proofs.Common.{sym, ◌∙◌}
 use Rattle.std.proofs.lemmas.Bool.{false≢true}
-use Rattle.format.specs.declared.SignedAnswer.TheVariants.{Done}
-use Rattle.format.specs.Meaning.{value_s, flag_s, guarded}
+use Rattle.format.specs.Meaning.{signed_kind, value_in, flag_in, guarded}
 use Rattle.filter.specs.declared.Stepped.{Stepped}
 use Rattle.filter.specs.Meaning.{most_taps, history, next, sum_of, held, clips, output_of, clip_of}
-use Rattle.filter.specs.Meaning.{history_after, outputs_of, clips_of, Run, run_of, taps_fault, stepped, step_of}
+use Rattle.filter.specs.Meaning.{history_after, outputs_of, clips_of, Run, run_of, taps_fault, done_with, stepped, step_of}
 use Rattle.filter.specs.Range.{Sample, sample-keeps, unclipped, held-sample}
 use Rattle.filter.specs.Run.{after-append, outputs-append, clips-append, after_is}
 
@@ -35,19 +34,19 @@ sum-margin = refl
 -- ---- A run is the steps in turn, and may be cut anywhere.
 -- what a step gives, in front of what the rest gives
 abbrev pub front : Stepped → Run → Run
-front s r = record { outputs = value_s s.answer ∷ r.outputs; flags = flag_s s.answer ∷ r.flags; final = r.final }
+front s r = record { outputs = value_in signed_kind s.answer ∷ r.outputs; flags = flag_in s.answer ∷ r.flags; final = r.final }
 
 unfoldable pub in_turn : List ℤ → List ℤ → List ℤ → Run
 in_turn taps h [] = record { outputs = []; flags = []; final = h }
 in_turn taps h (x ∷ xs) = front (step_of taps h x) (in_turn taps (history (step_of taps h x).state) xs)
 
 step_is : (taps h : List ℤ) (x : ℤ) → taps_fault (length taps) ≡ 0
-    → step_of taps h x ≡ stepped (Done (output_of taps (next h x)) (clip_of taps (next h x))) (next h x)
+    → step_of taps h x ≡ stepped (done_with (output_of taps (next h x)) (clip_of taps (next h x))) (next h x)
 unfolding step_of guarded
 step_is taps h x f = rw f
 
 pub run-in-turn : (taps h xs : List ℤ) → taps_fault (length taps) ≡ 0 → run_of taps h xs ≡ in_turn taps h xs
-unfolding run_of outputs_of clips_of history_after in_turn value_s flag_s
+unfolding run_of outputs_of clips_of history_after in_turn value_in flag_in
 run-in-turn taps h [] f = refl
 run-in-turn taps h (x ∷ xs) f = rw (step_is taps h x f, ← run-in-turn taps (next h x) xs f)
 

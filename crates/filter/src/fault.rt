@@ -1,35 +1,22 @@
-// What is refused before any work: 5 for lists of unequal length, then 40 for the number of taps; 0 for nothing.
-ghost use Rattle.std.specs.Prelude.{◌≡◌};
-ghost use Rattle.filter.specs.Meaning.{taps_fault, block_fault};
+// What a block is refused for, before any work.
+ghost use Rattle.std.specs.Prelude.{◌≡◌, length};
+ghost use Rattle.format.specs.Meaning.{checked};
+ghost use Rattle.filter.specs.Meaning.{block_fault};
 
-use super::TAPS;
+use super::taps::Taps;
+use format::Refusal;
 
-pub const UNEQUAL: u32 = 5;
-
-const WRONG_TAPS: u32 = 40;
-
-// Taps not 1 to 64.
-pub fn taps(n: usize) -> u32
-    ensures { result ≡ taps_fault n }
+// 5 where samples, outputs and clip bytes are not as many each, then what is refused of the taps.
+pub(crate) fn block<'a>(
+    taps: &'a [i16],
+    samples: usize,
+    outputs: usize,
+    clips: usize,
+) -> Result<Taps<'a>, Refusal>
+    ensures { result ≡ checked (block_fault (length taps.now) samples outputs clips) taps.now }
 {
-    if n == 0 {
-        return WRONG_TAPS;
+    if samples != outputs || samples != clips {
+        return Err(Refusal::WrongLength);
     }
-    if n <= TAPS {
-        return 0;
-    }
-    WRONG_TAPS
-}
-
-// Samples, outputs and clip bytes, one of each for each of the others.
-pub(crate) fn block(n: usize, samples: usize, outputs: usize, clips: usize) -> u32
-    ensures { result ≡ block_fault n samples outputs clips }
-{
-    if samples != outputs {
-        return UNEQUAL;
-    }
-    if samples != clips {
-        return UNEQUAL;
-    }
-    taps(n)
+    Taps::new(taps)
 }

@@ -5,12 +5,12 @@ ghost use Rattle.filter.specs.Meaning.{state_of};
 ghost use Rattle.filter.specs.Promise.{Silent, Steps, Runs};
 
 mod block;
-pub mod fault;
+mod fault;
 mod line;
 pub mod sum;
 pub mod taps;
 
-use format::{SignedAnswer, UnsignedAnswer};
+use format::{Answer, Answered};
 use line::Window;
 use taps::Taps;
 
@@ -26,7 +26,7 @@ pub struct State {
 // One step: the output with its clip flag, or the refusal; and the state after it.
 #[derive(Clone, Copy)]
 pub struct Stepped {
-    pub answer: SignedAnswer,
+    pub answer: Answered<i64>,
     pub state: State,
 }
 
@@ -43,22 +43,23 @@ pub fn silent() -> State
 pub fn step(taps: &[i16], state: State, x: i16) -> Stepped
     ensures { Steps taps.now state x result }
 {
-    let fault = fault::taps(taps.len());
-    if fault != 0 {
-        return Stepped {
-            answer: SignedAnswer::Refused(fault),
+    match Taps::new(taps) {
+        Err(refusal) => Stepped {
+            answer: Err(refusal),
             state,
-        };
-    }
-    let mut samples = state.samples;
-    line::push(&mut samples, x);
-    let held = sum::output(&Taps::new(taps), &samples[..]);
-    Stepped {
-        answer: SignedAnswer::Done {
-            raw: i64::from(held.value),
-            flag: held.clipped,
         },
-        state: State { samples },
+        Ok(taps) => {
+            let mut samples = state.samples;
+            line::push(&mut samples, x);
+            let held = sum::output(&taps, &samples[..]);
+            Stepped {
+                answer: Ok(Answer {
+                    raw: i64::from(held.value),
+                    flag: held.clipped,
+                }),
+                state: State { samples },
+            }
+        }
     }
 }
 
@@ -70,19 +71,16 @@ pub fn run(
     samples: &[i16],
     outputs: &mut [i16],
     clips: &mut [u8],
-) -> UnsignedAnswer
+) -> Answered<u64>
     ensures { Runs taps.now (state_of state.old) samples.now outputs.old clips.old result
         (state_of state.new) outputs.new clips.new }
 {
-    let fault = fault::block(taps.len(), samples.len(), outputs.len(), clips.len());
-    if fault != 0 {
-        return UnsignedAnswer::Refused(fault);
-    }
+    let taps = fault::block(taps, samples.len(), outputs.len(), clips.len())?;
     let mut line = Window::new(*state);
-    let count = block::through(&Taps::new(taps), &mut line, samples, outputs, clips);
+    let count = block::through(&taps, &mut line, samples, outputs, clips);
     state.copy_from_slice(line.line());
-    UnsignedAnswer::Done {
+    Ok(Answer {
         raw: count,
         flag: false,
-    }
+    })
 }

@@ -1,7 +1,10 @@
-// The taps of a filter: no more than its line has samples.
+// The taps of a filter: 1 to 64, so no more than its line has samples.
 ghost use Rattle.std.specs.Prelude.{◌≡◌, ◌≤◌, length};
-ghost use Rattle.filter.specs.Meaning.{most_taps};
+ghost use Rattle.format.specs.Meaning.{checked};
+ghost use Rattle.filter.specs.Meaning.{most_taps, taps_fault};
 
+use super::TAPS;
+use format::Refusal;
 use std::marker::Model;
 
 // A clause sees the list of the taps.
@@ -22,11 +25,14 @@ impl<'a> Model for Taps<'a> {
 }
 
 impl<'a> Taps<'a> {
-    pub fn new(raws: &'a [i16]) -> Taps<'a>
-        requires { length raws.now ≤ most_taps }
-        ensures { result ≡ raws.now }
+    // 40 where they are not 1 to 64.
+    pub fn new(raws: &'a [i16]) -> Result<Taps<'a>, Refusal>
+        ensures { result ≡ checked (taps_fault (length raws.now)) raws.now }
     {
-        Taps { raws }
+        if raws.is_empty() || TAPS < raws.len() {
+            return Err(Refusal::WrongTaps);
+        }
+        Ok(Taps { raws })
     }
 
     pub fn raws(&self) -> &[i16]

@@ -2,7 +2,7 @@
 // first, and how many outputs clip on it, fed oldest first from silence.
 #![tactic(auto)]
 
-use format::UnsignedAnswer;
+use format::Answered;
 use std::io;
 
 fn main(rt: HostRuntime) -> io::Result<()> {
@@ -63,11 +63,8 @@ fn clips(
 }
 
 // The value of an answer, 99 for a refusal.
-fn value(answer: UnsignedAnswer) -> u64 {
-    match answer {
-        UnsignedAnswer::Done { raw, flag: _ } => raw,
-        UnsignedAnswer::Refused(_) => 99,
-    }
+fn value(answer: Answered<u64>) -> u64 {
+    answer.map_or(99, |answer| answer.raw)
 }
 
 // A sample of a witness: one of the ends.

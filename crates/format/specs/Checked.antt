@@ -4,19 +4,8 @@ use Rattle.std.proofs.Common.{sym, ap, ap₂, ◌∙◌}
 use Rattle.std.specs.Result.{IfOk, IfErr}
 use borrow.Author.Tests.{eq-eqb, ne_eqb, eqb-true, eqb-false}
 use Rattle.format.specs.declared.refusal.Refusal.{Refusal}
-use Rattle.format.specs.Meaning.{named}
-use Rattle.format.specs.Meaning.{guarded, checked}
-
--- n is the number of the first refusal, 0 for none: there is none, and this is the format
-pub record Opens (n w f : ℕ) (width frac : ℕ) : Type 0 where
-  pub free : n ≡ 0
-  pub width_is : width ≡ w
-  pub frac_is : frac ≡ f
-
--- there is one, and this is its name
-pub record Refuses (n : ℕ) (e : Refusal) : Type 0 where
-  pub fault : n ≢ 0
-  pub named_is : e ≡ named n
+use Rattle.format.specs.Meaning.{guarded, checked, named}
+pub use Rattle.format.specs.Meaning.{Opens, Refuses}
 
 -- a fault is answered by its refusal, and no fault by the value
 module _ {A : Type 0} (n : ℕ) (a : A) {m : ℕ} (e : m ≡ n) where

@@ -1,6 +1,6 @@
 -- What a format is, which raws it has, and what becomes of an exact number in each manner:
 -- document 01, "Domain and numbers". Assumes nothing.
-use Rattle.std.specs.Prelude.{Result, Ok, Err, Bool, ◌||◌, true, false, cond, not, ◌&&◌, ℕ, ◌-◌, ◌*◌, ◌+◌, ◌^◌, leb, eqb, ℤ, pos, neg_ℤ, ◌-ℤ◌, ◌*ℤ◌}
+use Rattle.std.specs.Prelude.{◌≡◌, ◌≢◌, Result, Ok, Err, Bool, ◌||◌, true, false, cond, not, ◌&&◌, ℕ, ◌-◌, ◌*◌, ◌+◌, ◌^◌, leb, eqb, ℤ, pos, neg_ℤ, ◌-ℤ◌, ◌*ℤ◌}
 use Rattle.std.specs.Int.Signed.{le_z, lt_z}
 use Rattle.laws.specs.Diff.{up}
 use Rattle.laws.specs.Floor.{floor}
@@ -146,6 +146,17 @@ answered k (refused n) = Err (named n)
 -- A value, or the refusal of a number, 0 for none.
 unfoldable pub checked : {A : Type 0} → ℕ → A → Result A Refusal
 checked n a = guarded n (λ m. Err (named m)) (Ok a)
+
+-- What a check leaves to those who go on: n is the number of the first refusal, 0 for none: there is none, and this is the format
+pub record Opens (n w f : ℕ) (width frac : ℕ) : Type 0 where
+  pub free : n ≡ 0
+  pub width_is : width ≡ w
+  pub frac_is : frac ≡ f
+
+-- there is one, and this is its name
+pub record Refuses (n : ℕ) (e : Refusal) : Type 0 where
+  pub fault : n ≢ 0
+  pub named_is : e ≡ named n
 
 -- Number, value and flag of an answer: "Every refusal has value 0, flag clear".
 unfoldable pub number_in : {A : Type 0} → Answered A → ℕ

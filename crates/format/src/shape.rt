@@ -14,8 +14,7 @@ pub struct Format {
 
 impl Format {
     ghost use Rattle.std.specs.Prelude.{◌-◌, ◌^◌, IfOk, IfErr};
-    ghost use Rattle.format.specs.Meaning.{fault_of};
-    ghost use Rattle.format.specs.Checked.{Opens, Refuses};
+    ghost use Rattle.format.specs.Meaning.{fault_of, Opens, Refuses};
 
     // The format of this width and these fraction bits; 1 or 2 where there is none.
     pub fn new(width: u32, frac: u32) -> Result<Format, Refusal>

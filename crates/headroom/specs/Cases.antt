@@ -1,11 +1,10 @@
 -- Document 01's headroom cases, in its order, of the promised outcome itself: the taps, the verdict, and what a witness buffer of zeros holds after the call.
 -- Then the refusals, and cases of the signs. Assumes nothing.
-use Rattle.std.specs.Prelude.{◌≡◌, refl, true, false, List, [], ◌∷◌, ℕ, ◌+◌, ◌-◌, ◌^◌, ℤ, pos, negsuc, length, replicate}
+use Rattle.std.specs.Prelude.{◌≡◌, refl, Err, true, false, List, [], ◌∷◌, ℕ, ◌+◌, ◌-◌, ◌^◌, ℤ, pos, negsuc, length, replicate}
 use Rattle.std.specs.Int.Signed.{lt_z}
-use Rattle.format.specs.declared.UnsignedAnswer.TheVariants.{Done, Refused}
 use Rattle.laws.specs.Nearest.{nearest_even, nearest_by}
-use Rattle.format.specs.Meaning.{lowest, highest, guarded, with_sign}
-use Rattle.filter.specs.Meaning.{most_taps, sum_of, rounded, level_of, taps_fault}
+use Rattle.format.specs.Meaning.{lowest, highest, named, guarded, with_sign}
+use Rattle.filter.specs.Meaning.{most_taps, sum_of, rounded, level_of, taps_fault, done_with}
 use Rattle.headroom.specs.declared.peak.Way.TheVariants.{High, Low}
 use Rattle.headroom.specs.Meaning.{by_sign, driven_of, driving, passes, clips_way, verdict_of, witness_of, head_fault, headed, headroom_of}
 
@@ -17,10 +16,10 @@ abbrev zeros : ℕ → List ℤ
 zeros n = replicate n (pos 0)
 
 abbrev Headroom : List ℤ → ℕ → List ℤ → Type 0
-Headroom taps verdict witness = headroom_of taps (zeros (length taps)) ≡ headed (Done verdict false) witness
+Headroom taps verdict witness = headroom_of taps (zeros (length taps)) ≡ headed (done_with verdict false) witness
 
 abbrev Refusal : List ℤ → ℕ → ℕ → Type 0
-Refusal taps places number = headroom_of taps (zeros places) ≡ headed (Refused number) (zeros places)
+Refusal taps places number = headroom_of taps (zeros places) ≡ headed (Err (named number)) (zeros places)
 
 pub headroom-cases :
     Headroom (pos 32767 ∷ []) 0 (zeros 1)
@@ -38,7 +37,7 @@ pub refusal-cases :
     × (Refusal (zeros (most_taps + 1)) (most_taps + 1) 40
     × (Refusal (pos 1 ∷ []) 2 5
     × Refusal [] 1 5))
-unfolding headroom_of guarded head_fault taps_fault
+unfolding headroom_of guarded head_fault taps_fault named
 refusal-cases = (refl, (refl, (refl, refl)))
 
 -- a zero tap has the sample 0; signs matter: 16384 and -16384 reach 1073725440, 32767.5 steps, which is 32768 when rounded; 16385 and -16383, whose

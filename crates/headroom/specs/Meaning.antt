@@ -1,11 +1,9 @@
 -- The headroom check over lists of integers: document 01, module 8. It stands on the meaning of the filter: what the
 -- taps make of samples is its level. Assumes nothing.
-use Rattle.std.specs.Prelude.{Bool, false, cond, List, map, ℕ, eqb, ℤ, pos, length}
+use Rattle.std.specs.Prelude.{Err, Bool, false, cond, List, map, ℕ, eqb, ℤ, pos, length}
 use Rattle.std.specs.Int.Signed.{lt_z}
-use Rattle.format.specs.declared.UnsignedAnswer.{UnsignedAnswer}
-use Rattle.format.specs.declared.UnsignedAnswer.TheVariants.{Done as DoneU, Refused as RefusedU}
-use Rattle.format.specs.Meaning.{signed, lowest, highest, guarded}
-use Rattle.filter.specs.Meaning.{level_of, taps_fault}
+use Rattle.format.specs.Meaning.{signed, lowest, highest, Answered, named, guarded}
+use Rattle.filter.specs.Meaning.{level_of, taps_fault, done_with}
 use Rattle.headroom.specs.declared.peak.Way.{Way}
 use Rattle.headroom.specs.declared.peak.Way.TheVariants.{High, Low}
 
@@ -46,14 +44,14 @@ head_fault n places = cond (eqb n places) (taps_fault n) 5
 
 -- What the call leaves: the verdict, and the witness.
 pub record Headed : Type 0 where
-  pub answer : UnsignedAnswer
+  pub answer : Answered ℕ
   pub witness : List ℤ
 
-abbrev pub headed : UnsignedAnswer → List ℤ → Headed
+abbrev pub headed : Answered ℕ → List ℤ → Headed
 headed answer witness = record { answer = answer; witness = witness }
 
 unfoldable pub headroom_of : List ℤ → List ℤ → Headed
 headroom_of taps witness =
     guarded (head_fault (length taps) (length witness))
-    (λ n. headed (RefusedU n) witness)
-    (headed (DoneU (verdict_of taps) false) (witness_of taps witness))
+    (λ n. headed (Err (named n)) witness)
+    (headed (done_with (verdict_of taps) false) (witness_of taps witness))

@@ -1,10 +1,11 @@
 -- The facts that the headroom check is for, stated of the meaning of the filter itself. Assumes nothing.
-use Rattle.std.specs.Prelude.{◌≡◌, ◌↔◌, ◌⊎◌, true, false, List, reverse, ℕ, ◌+◌, ◌^◌, ◌≤◌, ◌<◌, ℤ, length}
+use Rattle.std.specs.Prelude.{◌≡◌, ◌↔◌, ◌⊎◌, Err, true, false, List, reverse, ℕ, ◌+◌, ◌^◌, ◌≤◌, ◌<◌, ℤ, length}
 use Rattle.std.proofs.Common.{sym, ap, ◌∙◌, inl, inr, arith}
 use Rattle.std.proofs.lemmas.List.{length-map}
-use Rattle.format.specs.declared.UnsignedAnswer.TheVariants.{Done as DoneU, Refused as RefusedU}
+use Rattle.format.specs.declared.refusal.Refusal.{Refusal}
+use Rattle.format.specs.Meaning.{unsigned_kind, named, value_in}
 use Rattle.filter.specs.declared.State.{State}
-use Rattle.filter.specs.Meaning.{most_taps, history, silence, sum_of, history_after, clips_of, run_of, clipped, block_fault, Ran, ran, ran_done, ran_of}
+use Rattle.filter.specs.Meaning.{most_taps, history, silence, sum_of, history_after, clips_of, run_of, clipped, block_fault, done_with, Ran, ran, ran_done, ran_of}
 use Rattle.filter.specs.Promise.{Runs}
 use Rattle.filter.specs.Refuse.{which}
 use Rattle.filter.specs.Range.{Samples, samples-after, samples-reverse, samples-zeros}
@@ -159,54 +160,55 @@ witness-clips taps h before few k some = go (told taps)
 
 -- ---- The public functions together, by their promises alone: `Heads` is what `headroom` promises, `Runs` what `run` does.
 -- an answer that is done is the meaning's, and not a refusal's
-same-value : {v w : ℕ} → DoneU v false ≡ DoneU w false → v ≡ w
-same-value e = cc
+same-value : {v w : ℕ} → done_with v false ≡ done_with w false → v ≡ w
+unfolding value_in
+same-value e = ap (value_in unsigned_kind) e
 
-not-refused : {v n : ℕ} {A : Type 0} → DoneU v false ≡ RefusedU n → A
+not-refused : {v : ℕ} {r : Refusal} {A : Type 0} → done_with v false ≡ Err r → A
 not-refused e =
     let z : ◌≡◌ {A = ℕ} 0 1 = cc in
     absurd (omega arith)
 
-head_done : (taps witness kept : List ℤ) (v : ℕ) → Heads taps witness (DoneU v false) kept
+head_done : (taps witness kept : List ℤ) (v : ℕ) → Heads taps witness (done_with v false) kept
     → (length taps ≤ most_taps) × ((v ≡ verdict_of taps) × (kept ≡ witness_of taps witness))
 unfolding headroom_of
 head_done taps witness kept v p = pick (which _ _ _ p)
   where
-    pick : ((head_fault (length taps) (length witness) ≡ 0) × (headed (DoneU v false) kept ≡ headed (DoneU (verdict_of taps) false) (witness_of taps witness)))
-        ⊎ (headed (DoneU v false) kept ≡ headed (RefusedU (head_fault (length taps) (length witness))) witness)
+    pick : ((head_fault (length taps) (length witness) ≡ 0) × (headed (done_with v false) kept ≡ headed (done_with (verdict_of taps) false) (witness_of taps witness)))
+        ⊎ (headed (done_with v false) kept ≡ headed (Err (named (head_fault (length taps) (length witness)))) witness)
         → (length taps ≤ most_taps) × ((v ≡ verdict_of taps) × (kept ≡ witness_of taps witness))
     pick (inl h) =
         ((head-fit (length taps) (length witness) h.0).1, (same-value (ap (λ (r : Headed). r.answer) h.1), ap (λ (r : Headed). r.witness) h.1))
     pick (inr h) = not-refused (ap (λ (r : Headed). r.answer) h)
 
 -- `headroom` never answers 2
-pub no-answer-2 : (taps witness kept : List ℤ) → Heads taps witness (DoneU 2 false) kept → ⊥
+pub no-answer-2 : (taps witness kept : List ℤ) → Heads taps witness (done_with 2 false) kept → ⊥
 no-answer-2 taps witness kept p = never-2 taps (sym (head_done taps witness kept 2 p).1.0)
 
 run-done : (taps : List ℤ) (state state' : State) (samples outputs outputs' : List ℤ) (marks marks' : List ℕ) (n : ℕ)
-    → Runs taps state samples outputs marks (DoneU n false) state' outputs' marks' → n ≡ clipped (run_of taps (history state) samples).flags
+    → Runs taps state samples outputs marks (done_with n false) state' outputs' marks' → n ≡ clipped (run_of taps (history state) samples).flags
 unfolding ran_of
 run-done taps state state' samples outputs outputs' marks marks' n p = pick (which _ _ _ p)
   where
     pick : ((block_fault (length taps) (length samples) (length outputs) (length marks) ≡ 0)
-        × (ran (DoneU n false) state' outputs' marks' ≡ ran_done (run_of taps (history state) samples)))
-        ⊎ (ran (DoneU n false) state' outputs' marks'
-        ≡ ran (RefusedU (block_fault (length taps) (length samples) (length outputs) (length marks))) state outputs marks)
+        × (ran (done_with n false) state' outputs' marks' ≡ ran_done (run_of taps (history state) samples)))
+        ⊎ (ran (done_with n false) state' outputs' marks'
+        ≡ ran (Err (named (block_fault (length taps) (length samples) (length outputs) (length marks)))) state outputs marks)
         → n ≡ clipped (run_of taps (history state) samples).flags
     pick (inl h) = same-value (ap (λ (r : Ran). r.answer) h.1)
     pick (inr h) = not-refused (ap (λ (r : Ran). r.answer) h)
 
 module _ (taps witness kept : List ℤ) (state state' : State) (samples outputs outputs' : List ℤ) (marks marks' : List ℕ) (n : ℕ) where
   -- NO SQUEAL. `headroom` answers 0: then `run`, on any block of samples from any state of samples, counts no clip.
-  pub no-squeal : Heads taps witness (DoneU 0 false) kept → Samples (history state) → Samples samples
-      → Runs taps state samples outputs marks (DoneU n false) state' outputs' marks' → n ≡ 0
+  pub no-squeal : Heads taps witness (done_with 0 false) kept → Samples (history state) → Samples samples
+      → Runs taps state samples outputs marks (done_with n false) state' outputs' marks' → n ≡ 0
   no-squeal p s k q =
       run-done taps state state' samples outputs outputs' marks marks' n q
       ∙ sound taps (history state) samples (sym (head_done taps witness kept 0 p).1.0) s k
 
   -- `headroom` answers 1 or 2: then `run`, on the witness it leaves, oldest first, from any state, counts one.
-  pub squeal : (v : ℕ) → Heads taps witness (DoneU (v + 1) false) kept → length (history state) ≤ most_taps → samples ≡ reverse kept
-      → Runs taps state samples outputs marks (DoneU n false) state' outputs' marks' → 0 < n
+  pub squeal : (v : ℕ) → Heads taps witness (done_with (v + 1) false) kept → length (history state) ≤ most_taps → samples ≡ reverse kept
+      → Runs taps state samples outputs marks (done_with n false) state' outputs' marks' → 0 < n
   squeal v p l e q =
       let h = head_done taps witness kept (v + 1) p in
       let fed : samples ≡ reverse (witness_of taps witness) = e ∙ ap reverse h.1.1 in

@@ -1,16 +1,17 @@
-// What is refused before any work: 5 where the witness has not a place for each tap, then what
-// the filter refuses of the taps; 0 for nothing.
-ghost use Rattle.std.specs.Prelude.{◌≡◌};
+// What the check is refused for, before any work.
+ghost use Rattle.std.specs.Prelude.{◌≡◌, length};
+ghost use Rattle.format.specs.Meaning.{checked};
 ghost use Rattle.headroom.specs.Meaning.{head_fault};
 
-use filter::fault;
+use filter::taps::Taps;
+use format::Refusal;
 
-// A place of the witness for each tap.
-pub(crate) fn headroom(n: usize, places: usize) -> u32
-    ensures { result ≡ head_fault n places }
+// 5 where the witness has not a place for each tap, then what the filter refuses of the taps.
+pub(crate) fn headroom<'a>(taps: &'a [i16], places: usize) -> Result<Taps<'a>, Refusal>
+    ensures { result ≡ checked (head_fault (length taps.now) places) taps.now }
 {
-    if n != places {
-        return fault::UNEQUAL;
+    if taps.len() != places {
+        return Err(Refusal::WrongLength);
     }
-    fault::taps(n)
+    Taps::new(taps)
 }

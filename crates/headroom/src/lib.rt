@@ -7,19 +7,15 @@ ghost use Rattle.headroom.specs.Promise.{Heads};
 mod fault;
 mod peak;
 
-use filter::taps::Taps;
-use format::UnsignedAnswer;
+use format::{Answer, Answered};
 
 // Whether any samples can make these taps clip: the verdict, and with 1 or 2 the samples that do, newest first.
-pub fn headroom(taps: &[i16], witness: &mut [i16]) -> UnsignedAnswer
+pub fn headroom(taps: &[i16], witness: &mut [i16]) -> Answered<u64>
     ensures { Heads taps.now witness.old result witness.new }
 {
-    let fault = fault::headroom(taps.len(), witness.len());
-    if fault != 0 {
-        return UnsignedAnswer::Refused(fault);
-    }
-    UnsignedAnswer::Done {
-        raw: peak::number(peak::verdict(&Taps::new(taps), witness)),
+    let taps = fault::headroom(taps, witness.len())?;
+    Ok(Answer {
+        raw: peak::number(peak::verdict(&taps, witness)),
         flag: false,
-    }
+    })
 }
