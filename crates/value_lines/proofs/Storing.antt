@@ -8,7 +8,6 @@ use Rattle.value_lines.specs.Meaning.{is_value, ValueLine, value_line, values_fr
 use Rattle.value_lines.specs.Held.{Held, held_none, held_more, held_all}
 use Rattle.value_lines.specs.Lines.{parts_of}
 use Rattle.value_lines.proofs.Lines.{parts-values, at_value, at-skip}
-use Rattle.value_lines.specs.Literal.{line_value}
 use Rattle.value_lines.specs.Store.{Entered, AllEntered, SoFar}
 
 -- no line is through
@@ -54,8 +53,7 @@ module _ (file lines : List ℕ) (raws : List ℤ) (answers lines' : List ℕ) (
       (room-answers : length (values_of file) ≤ length answers)
       {line : List ℕ} (here : number < length (parts_of file)) (is : line ≡ get_or (parts_of file) number line) where
     more-value : is_value line ≡ true
-        → SoFar file lines raws answers (set lines' n (number + 1)) (set raws' n (line_value line).raw) (set answers' n (line_value line).answer) (n + 1) (number + 1)
-    unfolding raw_at number_at line_value
+        → SoFar file lines raws answers (set lines' n (number + 1)) (set raws' n (raw_at (value_line (number + 1) line))) (set answers' n (number_at (value_line (number + 1) line))) (n + 1) (number + 1)
     more-value e =
         let left = s.left ∙ at_value (parts_of file) number (number + 1) here is e in
         let vs = values_of file in
@@ -82,8 +80,8 @@ module _ (file lines : List ℕ) (raws : List ℤ) (answers lines' : List ℕ) (
         → SoFar file lines raws answers l r a next (number + 1)
     more {l} {r} {a} {next} t = go (is_value line) refl t.lines_are t.raws-are t.answers-are t.next-is
       where
-        go : (b : Bool) → is_value line ≡ b → l ≡ cond b (set lines' n (number + 1)) lines' → r ≡ cond b (set raws' n (line_value line).raw) raws'
-            → a ≡ cond b (set answers' n (line_value line).answer) answers' → next ≡ cond b (n + 1) n
+        go : (b : Bool) → is_value line ≡ b → l ≡ cond b (set lines' n (number + 1)) lines' → r ≡ cond b (set raws' n (raw_at (value_line (number + 1) line))) raws'
+            → a ≡ cond b (set answers' n (number_at (value_line (number + 1) line))) answers' → next ≡ cond b (n + 1) n
             → SoFar file lines raws answers l r a next (number + 1)
         go true e p q u w = rw (p, q, u, w) (more-value e)
         go false e p q u w = rw (p, q, u, w) (more-skip e)

@@ -1,25 +1,23 @@
 -- The list as the loop has it: what one line adds, and what stands in the list once some lines are through. Assumes nothing.
 use Rattle.std.specs.Prelude.{◌≡◌, true, false, cond, List, map, ℕ, ◌+◌, ◌≤◌, ℤ, length, drop, set}
 use Rattle.laws.specs.Unique.{unique}
-use Rattle.value_lines.specs.declared.line.Value.{Value}
-use Rattle.value_lines.specs.Meaning.{is_value, ValueLine, values_from, values_of, line_number, raw_at, number_at, over}
+use Rattle.value_lines.specs.Meaning.{is_value, ValueLine, value_line, values_from, values_of, line_number, raw_at, number_at, over}
 use Rattle.value_lines.specs.Held.{Held}
 use Rattle.value_lines.specs.Lines.{parts_of}
-use Rattle.value_lines.specs.Literal.{line_value}
 
 -- what one line adds: nothing, or its number, raw and answer in place n
 pub record Entered (line : List ℕ) (number n : ℕ) (lines : List ℕ) (raws : List ℤ) (answers lines' : List ℕ) (raws' : List ℤ) (answers' : List ℕ)
     (next : ℕ) : Type 0 where
   pub lines_are : lines' ≡ cond (is_value line) (set lines n number) lines
-  pub raws-are : raws' ≡ cond (is_value line) (set raws n (line_value line).raw) raws
-  pub answers-are : answers' ≡ cond (is_value line) (set answers n (line_value line).answer) answers
+  pub raws-are : raws' ≡ cond (is_value line) (set raws n (raw_at (value_line number line))) raws
+  pub answers-are : answers' ≡ cond (is_value line) (set answers n (number_at (value_line number line))) answers
   pub next-is : next ≡ cond (is_value line) (n + 1) n
 
 -- the two ways
 module _ {line : List ℕ} {number n : ℕ} {lines : List ℕ} {raws : List ℤ} {answers : List ℕ} where
-  pub entered : {v : Value} {raw : ℤ} → is_value line ≡ true → v ≡ line_value line → raw ≡ v.raw
-      → Entered line number n lines raws answers (set lines n number) (set raws n raw) (set answers n v.answer) (n + 1)
-  entered e is same = record { lines_are = rw e; raws-are = rw (e, same, is); answers-are = rw (e, is); next-is = rw e }
+  pub entered : {raw : ℤ} {answer : ℕ} → is_value line ≡ true → raw ≡ raw_at (value_line number line) → answer ≡ number_at (value_line number line)
+      → Entered line number n lines raws answers (set lines n number) (set raws n raw) (set answers n answer) (n + 1)
+  entered e r a = record { lines_are = rw e; raws-are = rw (e, r); answers-are = rw (e, a); next-is = rw e }
 
   pub passed : is_value line ≡ false → Entered line number n lines raws answers lines raws answers n
   passed e = record { lines_are = rw e; raws-are = rw e; answers-are = rw e; next-is = rw e }

@@ -20,7 +20,8 @@ pub fn count(file: &[u8]) -> usize
         .count()
 }
 
-// A value line into place n of the list; any other line is passed. The next place.
+// A value line into place n of the list, whose parts are the three slices that C lends: a raw is 0 where the line is
+// refused, an answer 0 where it is not. Any other line is passed. The next place.
 fn enter(
     line: &[u8],
     number: u32,
@@ -36,9 +37,10 @@ fn enter(
         answers.old lines.new raws.new answers.new result }
 {
     if line::is_value(line) {
-        let value = line::read_value(line);
-        let raw = value.raw;
-        let answer = value.answer;
+        let (raw, answer) = match line::read_value(line) {
+            Ok(raw) => (raw, 0),
+            Err(refusal) => (0, refusal.number()),
+        };
         lines[n] = number;
         raws[n] = raw;
         answers[n] = answer;

@@ -3,7 +3,7 @@ ghost use Rattle.std.specs.Prelude.{◌≡◌};
 ghost use Rattle.value_lines.specs.Meaning.{is_value};
 ghost use Rattle.value_lines.specs.Literal.{line_value};
 
-use format::SignedAnswer;
+use format::Refusal;
 
 const COMMENT: u8 = 35;
 
@@ -11,13 +11,6 @@ const COMMENT: u8 = 35;
 const WIDTH: u32 = 16;
 
 const FRAC: u32 = 15;
-
-// What a value line gives: its raw, 0 where it is refused; and its answer, 0 where it is not.
-#[derive(Clone, Copy)]
-pub(crate) struct Value {
-    pub raw: i16,
-    pub answer: u32,
-}
 
 // Neither empty nor a comment.
 pub(crate) fn is_value(line: &[u8]) -> bool
@@ -30,15 +23,9 @@ pub(crate) fn is_value(line: &[u8]) -> bool
 }
 
 // The literal of a line. A strict raw of 16 bits loses nothing as one.
-pub(crate) fn read_value(line: &[u8]) -> Value
+pub(crate) fn read_value(line: &[u8]) -> Result<i16, Refusal>
     ensures { result ≡ line_value line.now }
 {
-    let read = text::signed::read_literal(line, WIDTH, FRAC);
-    match read {
-        SignedAnswer::Done { raw, flag: _ } => Value {
-            raw: raw as i16,
-            answer: 0,
-        },
-        SignedAnswer::Refused(n) => Value { raw: 0, answer: n },
-    }
+    let read = text::read_literal::<i64>(line, WIDTH, FRAC)?;
+    Ok(read.raw as i16)
 }
