@@ -3,7 +3,7 @@ ghost use Rattle.std.specs.Prelude.{◌≡◌, ◌≤◌, length, take};
 ghost use Rattle.value_lines.specs.Meaning.{over};
 ghost use Rattle.fitting.specs.Judge.{judged_of};
 
-use crate::FileAnswer;
+use crate::{FileAnswer, FileRefusal};
 
 // The first of the values that was refused.
 pub fn judge(lines: &[u32], answers: &[u32], values: u32) -> FileAnswer
@@ -17,11 +17,11 @@ pub fn judge(lines: &[u32], answers: &[u32], values: u32) -> FileAnswer
         .zip(&answers[..n])
         .find(|(_, inner)| **inner != 0);
     match refused {
-        Some((line, inner)) => FileAnswer::Line {
+        Some((line, inner)) => Err(FileRefusal::Line {
             line: *line,
             inner: *inner,
-        },
-        None => FileAnswer::Done { values },
+        }),
+        None => Ok(values),
     }
 }
 
