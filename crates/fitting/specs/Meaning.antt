@@ -1,15 +1,19 @@
 -- The fitting file over its value lines: document 01, module 9. Assumes nothing.
-use Rattle.std.specs.Prelude.{Bool, true, false, cond, List, [], ◌∷◌, map, ℕ, leb, eqb, ℤ, length}
-use Rattle.format.specs.Meaning.{guarded}
+use Rattle.std.specs.Prelude.{Result, Ok, Err, Bool, true, false, cond, List, [], ◌∷◌, map, ℕ, leb, eqb, ℤ, length}
+use Rattle.format.specs.Meaning.{number, named, guarded}
 use Rattle.filter.specs.Meaning.{most_taps}
 use Rattle.value_lines.specs.Meaning.{file_limit, ValueLine, values_of, line_number, raw_at, number_at, over}
-use Rattle.fitting.specs.declared.FileAnswer.{FileAnswer}
-use Rattle.fitting.specs.declared.FileAnswer.TheVariants.{Done, Refused, Line}
+use Rattle.fitting.specs.declared.FileRefusal.{FileRefusal}
+use Rattle.fitting.specs.declared.FileRefusal.TheVariants.{Whole, Line}
+
+-- the number of values, or the refusal
+abbrev pub FileAnswer : Type 0
+FileAnswer = Result ℕ FileRefusal
 
 -- "42: .. line number (from 1) and inner answer of the first such line come with it"; n is the number of values
 unfoldable pub judge : ℕ → List ValueLine → FileAnswer
-judge n [] = Done n
-judge n (v ∷ vs) = cond (eqb (number_at v) 0) (judge n vs) (Line v.number (number_at v))
+judge n [] = Ok n
+judge n (v ∷ vs) = cond (eqb (number_at v) 0) (judge n vs) (Err (Line v.number (number_at v)))
 
 abbrev pub judge_all : List ValueLine → FileAnswer
 judge_all vs = judge (length vs) vs
@@ -36,24 +40,24 @@ file_fault bytes values lines raws answers taps =
 
 -- ---- Number, values, line and inner answer of an answer: 42 for a refused line; 0 where a refusal has none.
 unfoldable pub number_f : FileAnswer → ℕ
-number_f (Done n) = 0
-number_f (Refused n) = n
-number_f (Line line inner) = 42
+number_f (Ok n) = 0
+number_f (Err (Whole e)) = number e
+number_f (Err (Line line inner)) = 42
 
 unfoldable pub values_f : FileAnswer → ℕ
-values_f (Done n) = n
-values_f (Refused n) = 0
-values_f (Line line inner) = 0
+values_f (Ok n) = n
+values_f (Err (Whole e)) = 0
+values_f (Err (Line line inner)) = 0
 
 unfoldable pub line_f : FileAnswer → ℕ
-line_f (Done n) = 0
-line_f (Refused n) = 0
-line_f (Line line inner) = line
+line_f (Ok n) = 0
+line_f (Err (Whole e)) = 0
+line_f (Err (Line line inner)) = line
 
 unfoldable pub inner_f : FileAnswer → ℕ
-inner_f (Done n) = 0
-inner_f (Refused n) = 0
-inner_f (Line line inner) = inner
+inner_f (Ok n) = 0
+inner_f (Err (Whole e)) = 0
+inner_f (Err (Line line inner)) = inner
 
 -- ---- What the call leaves: the answer, and the four lent slices
 pub record Fitted : Type 0 where
@@ -78,5 +82,5 @@ unfoldable pub fitted_of : List ℕ → List ℕ → List ℤ → List ℕ → L
 fitted_of file lines raws answers taps =
     guarded
     (file_fault (length file) (length (values_of file)) (length lines) (length raws) (length answers) (length taps))
-    (λ n. fitted (Refused n) lines raws answers taps)
+    (λ n. fitted (Err (Whole (named n))) lines raws answers taps)
     (listed (values_of file) lines raws answers taps)

@@ -2,8 +2,7 @@
 -- Assumes nothing.
 use Rattle.std.specs.Prelude.{◌≡◌, List, ℕ, ℤ}
 use Rattle.std.proofs.Common.{sym, ap, ◌∙◌}
-use Rattle.fitting.specs.declared.FileAnswer.{FileAnswer}
-use Rattle.fitting.specs.Meaning.{Fitted, fitted, fitted_of}
+use Rattle.fitting.specs.Meaning.{FileAnswer, Fitted, fitted, fitted_of}
 
 abbrev pub Reads : List ℕ → List ℕ → List ℤ → List ℕ → List ℤ → FileAnswer → List ℕ → List ℤ → List ℕ → List ℤ → Type 0
 Reads file lines raws answers taps r lines' raws' answers' taps' =

@@ -1,38 +1,40 @@
 -- The refusals before anything is written, as the code comes to them, and what is known where there is none. Assumes nothing.
-use Rattle.std.specs.Prelude.{◌≡◌, refl, Bool, true, false, cond, List, ℕ, ◌≤◌, ◌<◌, eqb, leb, length}
+use Rattle.std.specs.Prelude.{◌≡◌, refl, Result, Ok, Err, Bool, true, false, cond, List, ℕ, ◌≤◌, ◌<◌, eqb, leb, length}
 use Rattle.std.proofs.Common.{arith}
-use borrow.Author.Tests.{eq-eqb, ne_eqb, le-leb, lt-leb, eqb-true, leb-true}
-use Rattle.format.specs.Meaning.{guarded}
+use borrow.Author.Tests.{ne_eqb, le-leb, lt-leb, eqb-true, leb-true}
+use Rattle.format.specs.Meaning.{named, guarded, checked}
+use Rattle.format.specs.Checked.{fault-checked, none-checked}
 use Rattle.filter.specs.Meaning.{most_taps}
 use Rattle.value_lines.specs.Meaning.{file_limit, values_of}
-use Rattle.fitting.specs.declared.FileAnswer.{FileAnswer}
-use Rattle.fitting.specs.declared.FileAnswer.TheVariants.{Done, Refused}
+use Rattle.format.specs.declared.refusal.Refusal.{Refusal}
+use Rattle.format.specs.declared.refusal.Refusal.TheVariants.{TooLong, TooManyValues}
 use Rattle.fitting.specs.Meaning.{room_fault, file_fault}
 
 -- the number of values, or the refusal
-unfoldable pub checked_of : List ℕ → ℕ → ℕ → ℕ → ℕ → FileAnswer
-checked_of file lines raws answers taps =
-    guarded (file_fault (length file) (length (values_of file)) lines raws answers taps) (λ n. Refused n) (Done (length (values_of file)))
+unfoldable pub checked_of : List ℕ → ℕ → ℕ → ℕ → ℕ → Result ℕ Refusal
+checked_of file lines raws answers taps = checked (file_fault (length file) (length (values_of file)) lines raws answers taps) (length (values_of file))
 
 -- ---- each way out
 module _ (file : List ℕ) (lines raws answers taps : ℕ) where
-  pub checked-long : file_limit < length file → Refused 4 ≡ checked_of file lines raws answers taps
-  unfolding checked_of file_fault guarded
+  pub checked-long : file_limit < length file → Err TooLong ≡ checked_of file lines raws answers taps
+  unfolding checked_of file_fault checked guarded named
   checked-long h = rw (lt-leb (length file) file_limit h)
 
   module _ {n : ℕ} (short : length file ≤ file_limit) (is : n ≡ length (values_of file)) where
-    pub checked-many : most_taps < n → Refused 41 ≡ checked_of file lines raws answers taps
-    unfolding checked_of file_fault guarded
+    pub checked-many : most_taps < n → Err TooManyValues ≡ checked_of file lines raws answers taps
+    unfolding checked_of file_fault checked guarded named
     checked-many h = rw (le-leb (length file) file_limit short, ← is, lt-leb n most_taps h)
 
-    module _ {fault : ℕ} (few : n ≤ most_taps) (said : fault ≡ room_fault n lines raws answers taps) where
-      pub checked-room : (fault ≡ 0 → ⊥) → Refused fault ≡ checked_of file lines raws answers taps
-      unfolding checked_of file_fault guarded
-      checked-room h = rw (le-leb (length file) file_limit short, ← is, le-leb n most_taps few, ← said, ne_eqb fault 0 h)
+    module _ (few : n ≤ most_taps) where
+      pub checked-room : {e : Refusal} → ◌≡◌ {A = Result (Unit {0}) Refusal} (Err e) (checked (room_fault n lines raws answers taps) (tt {0})) → Err e ≡ checked_of file lines raws answers taps
+      unfolding checked_of file_fault checked guarded
+      checked-room r =
+          let f = fault-checked (tt {0}) r in
+          rw (le-leb (length file) file_limit short, ← is, le-leb n most_taps few, ne_eqb (room_fault n lines raws answers taps) 0 f.0, f.1)
 
-      pub checked-fine : fault ≡ 0 → Done n ≡ checked_of file lines raws answers taps
-      unfolding checked_of file_fault guarded
-      checked-fine h = rw (le-leb (length file) file_limit short, ← is, le-leb n most_taps few, ← said, eq-eqb fault 0 h)
+      pub checked-fine : ◌≡◌ {A = Result (Unit {0}) Refusal} (Ok (tt {0})) (checked (room_fault n lines raws answers taps) (tt {0})) → Ok n ≡ checked_of file lines raws answers taps
+      unfolding checked_of file_fault checked guarded
+      checked-fine r = rw (le-leb (length file) file_limit short, ← is, le-leb n most_taps few, (none-checked (tt {0}) r).0)
 
 -- ---- what is known where nothing is refused
 pub record Room (bytes values lines raws answers taps : ℕ) : Type 0 where

@@ -3,7 +3,7 @@ ghost use Rattle.std.specs.Prelude.{◌≡◌, ◌≤◌, length, take};
 ghost use Rattle.value_lines.specs.Meaning.{over};
 ghost use Rattle.fitting.specs.Judge.{judged_of};
 
-use crate::FileAnswer;
+use crate::{FileAnswer, FileRefusal};
 
 // The first of the values that was refused.
 pub fn judge(lines: &[u32], answers: &[u32], values: u32) -> FileAnswer
@@ -12,18 +12,17 @@ pub fn judge(lines: &[u32], answers: &[u32], values: u32) -> FileAnswer
     ensures { result ≡ judged_of values (take values lines.now) (take values answers.now) }
 {
     let n = values as usize;
-    let mut i: usize = 0;
-    while i < n {
-        let inner = answers[i];
-        if inner != 0 {
-            return FileAnswer::Line {
-                line: lines[i],
-                inner,
-            };
-        }
-        i += 1;
+    let refused = lines[..n]
+        .iter()
+        .zip(&answers[..n])
+        .find(|(_, inner)| **inner != 0);
+    match refused {
+        Some((line, inner)) => Err(FileRefusal::Line {
+            line: *line,
+            inner: *inner,
+        }),
+        None => Ok(values),
     }
-    FileAnswer::Done { values }
 }
 
 // The raws into the first taps.
@@ -33,10 +32,5 @@ pub fn keep(raws: &[i16], taps: &mut [i16], values: u32)
     ensures { taps.new ≡ over (take values raws.now) taps.old }
 {
     let n = values as usize;
-    let mut i: usize = 0;
-    while i < n {
-        let raw = raws[i];
-        taps[i] = raw;
-        i += 1;
-    }
+    taps[..n].copy_from_slice(&raws[..n]);
 }

@@ -2,7 +2,11 @@
 // raw and answer, and the taps if none is refused.
 #![tactic(auto)]
 
+ghost use Rattle.std.specs.Prelude.{◌≡◌};
 ghost use Rattle.fitting.specs.Promise.{Reads};
+ghost use Rattle.fitting.specs.declared.FileRefusal.TheVariants.{Whole};
+
+use format::Refusal;
 
 pub mod check;
 pub mod judge;
@@ -10,15 +14,25 @@ pub mod judge;
 // The longest file.
 pub const FILE_LIMIT: usize = 16384;
 
-// The values of a file; or a refusal; or 42, with the number of the first refused line and its answer.
-#[derive(Clone, Copy)]
-pub enum FileAnswer {
-    Done { values: u32 },
-    Refused(u32),
+// How many values a file holds; or why it is refused.
+pub type FileAnswer = Result<u32, FileRefusal>;
+
+// A refusal of the whole file; or 42, with the number of the first refused line and the number of its refusal.
+#[derive(Clone, Copy, Debug, PartialEq, Eq)]
+pub enum FileRefusal {
+    Whole(Refusal),
     Line { line: u32, inner: u32 },
 }
 
-// The list is three lent slices of one length: line numbers, raws and answers.
+impl From<Refusal> for FileRefusal {
+    ghost from_gives = { λ refusal r. r ≡ Whole refusal };
+
+    fn from(refusal: Refusal) -> FileRefusal {
+        FileRefusal::Whole(refusal)
+    }
+}
+
+// The list is three slices of one length, as the C interface lends them: line numbers, raws and answers.
 pub fn read(
     file: &[u8],
     lines: &mut [u32],
@@ -29,15 +43,9 @@ pub fn read(
     ensures { Reads file.now lines.old raws.old answers.old
         taps.old result lines.new raws.new answers.new taps.new }
 {
-    let checked = check::check(file, lines.len(), raws.len(), answers.len(), taps.len());
-    let FileAnswer::Done { values } = checked else {
-        return checked;
-    };
+    let values = check::check(file, lines.len(), raws.len(), answers.len(), taps.len())?;
     value_lines::store(file, lines, raws, answers);
-    let judged = judge::judge(lines, answers, values);
-    let FileAnswer::Done { values: n } = judged else {
-        return judged;
-    };
-    judge::keep(raws, taps, n);
-    judged
+    judge::judge(lines, answers, values)?;
+    judge::keep(raws, taps, values);
+    Ok(values)
 }

@@ -84,11 +84,8 @@ pub fn read_list(file: &[u8], list: &mut [Entry], taps: &mut [i16]) -> FileAnswe
         taps.new }
 {
     let f = find(file, list.len(), taps);
-    let n = f.n;
-    let mut i = 0;
-    while i < n {
+    for i in 0..f.n {
         list[i] = pick(&f, i);
-        i = i + 1;
     }
     f.outcome
 }

@@ -1,30 +1,38 @@
--- The value lines from a place on, one line at a time: what a line adds to them and to their number. Assumes nothing.
-use Rattle.std.specs.Prelude.{◌≡◌, refl, Bool, true, false, List, [], ◌∷◌, ℕ, suc, ◌+◌, ◌<◌, length, drop}
-use Rattle.std.proofs.Math.Path.{sym}
-use Rattle.std.proofs.Common.{ap, ◌∙◌, arith}
+-- The parts of a file hold its values: what a part adds to the value lines, and how many these are. Assumes nothing.
+use Rattle.std.specs.Prelude.{◌≡◌, ◌⊎◌, refl, Bool, true, false, cond, List, [], ◌∷◌, ◌++◌, ℕ, suc, ◌+◌, ◌<◌, length, drop, get_or, filter}
+use Rattle.std.proofs.Common.{ap, ◌∙◌, inl, inr, arith, append-nil, drop-cons}
 use Rattle.value_lines.specs.Meaning.{lines_of, is_value, value_line, values_from}
-use Rattle.value_lines.specs.Lines.{first_line, line_at, value-more, value-skip, values_at, count_at}
+use Rattle.value_lines.specs.Lines.{parts_of, parts-are, value-more, value-skip}
+use Rattle.value_lines.specs.Theorems.{values-append}
 
--- ---- counting the value lines: how many there are does not depend on the first one's number
-pub count-any : (n m : ℕ) (lines : List (List ℕ)) → length (values_from n lines) ≡ length (values_from m lines)
-unfolding values_from
-count-any n m [] = refl
-count-any n m (line ∷ lines) = go (is_value line) refl (count-any (n + 1) (m + 1) lines)
+-- ---- the parts hold the file's values: an empty part holds none
+pub parts-values : (n : ℕ) (file : List ℕ) → values_from n (parts_of file) ≡ values_from n (lines_of file)
+unfolding values_from is_value
+parts-values n file = go (parts-are file)
   where
-    go : (b : Bool) → is_value line ≡ b → length (values_from (n + 1) lines) ≡ length (values_from (m + 1) lines)
-        → length (values_from n (line ∷ lines)) ≡ length (values_from m (line ∷ lines))
-    go true e h = ap length (value-more n line lines e) ∙ ap suc h ∙ sym (ap length (value-more m line lines e))
-    go false e h = ap length (value-skip n line lines e) ∙ h ∙ sym (ap length (value-skip m line lines e))
+    go : (parts_of file ≡ lines_of file) ⊎ (parts_of file ≡ lines_of file ++ [] ∷ []) → values_from n (parts_of file) ≡ values_from n (lines_of file)
+    go (inl h) = ap (values_from n) h
+    go (inr h) = ap (values_from n) h ∙ values-append n (lines_of file) ([] ∷ []) ∙ append-nil (values_from n (lines_of file))
 
-module _ (file : List ℕ) (at : ℕ) {line : List ℕ} (here : at < length file) (is : line ≡ first_line (drop at file)) where
-  pub at_value : (n : ℕ) → is_value line ≡ true → values_at file at n ≡ value_line n line ∷ values_at file (at + (length line + 1)) (n + 1)
-  at_value n e = rw (line_at file at here is) (value-more n line _ e)
+-- the lines that hold a value are as many as the value lines
+pub count-values : (n : ℕ) (lines : List (List ℕ)) → length (filter is_value lines) ≡ length (values_from n lines)
+unfolding values_from
+count-values n [] = refl
+count-values n (line ∷ lines) = go (is_value line) (count-values (n + 1) lines)
+  where
+    go : (b : Bool) → length (filter is_value lines) ≡ length (values_from (n + 1) lines)
+        → length (cond b (line ∷ filter is_value lines) (filter is_value lines))
+        ≡ length (cond b (value_line n line ∷ values_from (n + 1) lines) (values_from (n + 1) lines))
+    go true h = ap suc h
+    go false h = h
 
-  pub at-skip : (n : ℕ) → is_value line ≡ false → values_at file at n ≡ values_at file (at + (length line + 1)) (n + 1)
-  at-skip n e = rw (line_at file at here is) (value-skip n line _ e)
+-- the part at a place
+module _ (parts : List (List ℕ)) (at n : ℕ) {line : List ℕ} (here : at < length parts) (is : line ≡ get_or parts at line) where
+  turn : drop at parts ≡ line ∷ drop (at + 1) parts
+  turn = let e = drop-cons parts at line here in let one : suc at ≡ at + 1 = omega arith in cc
 
-  pub count-value : is_value line ≡ true → count_at file at ≡ 1 + count_at file (at + (length line + 1))
-  count-value e = ap length (at_value 1 e) ∙ ap suc (count-any 2 1 (lines_of (drop (at + (length line + 1)) file))) ∙ omega arith
+  pub at_value : is_value line ≡ true → values_from n (drop at parts) ≡ value_line n line ∷ values_from (n + 1) (drop (at + 1) parts)
+  at_value e = ap (values_from n) turn ∙ value-more n line (drop (at + 1) parts) e
 
-  pub count-skip : is_value line ≡ false → count_at file at ≡ count_at file (at + (length line + 1))
-  count-skip e = ap length (at-skip 1 e) ∙ count-any 2 1 (lines_of (drop (at + (length line + 1)) file))
+  pub at-skip : is_value line ≡ false → values_from n (drop at parts) ≡ values_from (n + 1) (drop (at + 1) parts)
+  at-skip e = ap (values_from n) turn ∙ value-skip n line (drop (at + 1) parts) e

@@ -1,7 +1,6 @@
 -- The value lines of a fitting file, over the list of its bytes: document 01, module 9. Assumes nothing.
 use Rattle.std.specs.Prelude.{Bool, false, cond, not, List, [], ◌∷◌, ◌++◌, ℕ, ◌+◌, eqb, ℤ, length, drop}
-use Rattle.format.specs.declared.SignedAnswer.{SignedAnswer}
-use Rattle.format.specs.Meaning.{signed, signed_answer, number_s, value_s}
+use Rattle.format.specs.Meaning.{signed, signed_kind, Answered, answered, number_in, value_in}
 use Rattle.grammar.specs.Meaning.{literal_of}
 
 -- "4: .. fitting file above 16384" bytes
@@ -47,18 +46,18 @@ unfoldable pub values_of : List ℕ → List ValueLine
 values_of file = values_from 1 (lines_of file)
 
 -- ---- "each other line is one signed I1F15 literal, strict"
-unfoldable pub answer_of : List ℕ → SignedAnswer
-answer_of line = signed_answer (literal_of signed 16 15 line)
+unfoldable pub answer_of : List ℕ → Answered ℤ
+answer_of line = answered signed_kind (literal_of signed 16 15 line)
 
 -- "A list with line number, raw and answer for each value": the number is 0 for a value, the raw is 0 where refused
 abbrev pub line_number : ValueLine → ℕ
 line_number v = v.number
 
 unfoldable pub raw_at : ValueLine → ℤ
-raw_at v = value_s (answer_of v.text)
+raw_at v = value_in signed_kind (answer_of v.text)
 
 unfoldable pub number_at : ValueLine → ℕ
-number_at v = number_s (answer_of v.text)
+number_at v = number_in (answer_of v.text)
 
 -- "List entries and taps past the last value stay as they were."
 abbrev pub over : {A : Type 0} → List A → List A → List A

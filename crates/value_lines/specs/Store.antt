@@ -1,27 +1,23 @@
--- The list as the loop has it: what one line adds, what stands in the list once the lines before a place are through, and the laws of the start,
--- of one line more and of the end. Assumes nothing.
-use Rattle.std.specs.Prelude.{◌≡◌, refl, true, false, cond, List, map, ℕ, ◌+◌, ◌≤◌, ℤ, length, drop, set}
-use Rattle.std.proofs.Common.{arith}
+-- The list as the loop has it: what one line adds, and what stands in the list once some lines are through. Assumes nothing.
+use Rattle.std.specs.Prelude.{◌≡◌, true, false, cond, List, map, ℕ, ◌+◌, ◌≤◌, ℤ, length, drop, set}
 use Rattle.laws.specs.Unique.{unique}
-use Rattle.value_lines.specs.declared.line.Value.{Value}
-use Rattle.value_lines.specs.Meaning.{is_value, ValueLine, values_of, line_number, raw_at, number_at, over}
-use Rattle.value_lines.specs.Held.{Held, held_none}
-use Rattle.value_lines.specs.Lines.{values_at}
-use Rattle.value_lines.specs.Literal.{line_value}
+use Rattle.value_lines.specs.Meaning.{is_value, ValueLine, value_line, values_from, values_of, line_number, raw_at, number_at, over}
+use Rattle.value_lines.specs.Held.{Held}
+use Rattle.value_lines.specs.Lines.{parts_of}
 
 -- what one line adds: nothing, or its number, raw and answer in place n
 pub record Entered (line : List ℕ) (number n : ℕ) (lines : List ℕ) (raws : List ℤ) (answers lines' : List ℕ) (raws' : List ℤ) (answers' : List ℕ)
     (next : ℕ) : Type 0 where
   pub lines_are : lines' ≡ cond (is_value line) (set lines n number) lines
-  pub raws-are : raws' ≡ cond (is_value line) (set raws n (line_value line).raw) raws
-  pub answers-are : answers' ≡ cond (is_value line) (set answers n (line_value line).answer) answers
+  pub raws-are : raws' ≡ cond (is_value line) (set raws n (raw_at (value_line number line))) raws
+  pub answers-are : answers' ≡ cond (is_value line) (set answers n (number_at (value_line number line))) answers
   pub next-is : next ≡ cond (is_value line) (n + 1) n
 
 -- the two ways
 module _ {line : List ℕ} {number n : ℕ} {lines : List ℕ} {raws : List ℤ} {answers : List ℕ} where
-  pub entered : {v : Value} {raw : ℤ} → is_value line ≡ true → v ≡ line_value line → raw ≡ v.raw
-      → Entered line number n lines raws answers (set lines n number) (set raws n raw) (set answers n v.answer) (n + 1)
-  entered e is same = record { lines_are = rw e; raws-are = rw (e, same, is); answers-are = rw (e, is); next-is = rw e }
+  pub entered : {raw : ℤ} {answer : ℕ} → is_value line ≡ true → raw ≡ raw_at (value_line number line) → answer ≡ number_at (value_line number line)
+      → Entered line number n lines raws answers (set lines n number) (set raws n raw) (set answers n answer) (n + 1)
+  entered e r a = record { lines_are = rw e; raws-are = rw (e, r); answers-are = rw (e, a); next-is = rw e }
 
   pub passed : is_value line ≡ false → Entered line number n lines raws answers lines raws answers n
   passed e = record { lines_are = rw e; raws-are = rw e; answers-are = rw e; next-is = rw e }
@@ -38,25 +34,10 @@ pub all-entered-unique : {vs : List ValueLine} {lines : List ℕ} {raws : List �
 all-entered-unique p q =
     (unique p.lines_are q.lines_are, (unique p.raws-are q.raws-are, unique p.answers-are q.answers-are))
 
--- the lines before place `at` are through: `number` lines, n of them values
-pub record SoFar (file lines : List ℕ) (raws : List ℤ) (answers lines' : List ℕ) (raws' : List ℤ) (answers' : List ℕ) (n number at : ℕ) : Type 0 where
-  pub place : at ≤ length file + 1
-  pub numbered : number ≤ at
+-- `number` lines are through, n of them values
+pub record SoFar (file lines : List ℕ) (raws : List ℤ) (answers lines' : List ℕ) (raws' : List ℤ) (answers' : List ℕ) (n number : ℕ) : Type 0 where
   pub few : n ≤ length (values_of file)
-  pub left : drop n (values_of file) ≡ values_at file at (number + 1)
+  pub left : drop n (values_of file) ≡ values_from (number + 1) (drop number (parts_of file))
   pub lines-hold : Held (map line_number (values_of file)) n lines lines'
   pub raws-hold : Held (map raw_at (values_of file)) n raws raws'
   pub answers-hold : Held (map number_at (values_of file)) n answers answers'
-
-pub start : (file lines : List ℕ) (raws : List ℤ) (answers : List ℕ) → SoFar file lines raws answers lines raws answers 0 0 0
-unfolding values_of
-start file lines raws answers =
-    record {
-      place = omega arith;
-      numbered = omega arith;
-      few = omega arith;
-      left = refl;
-      lines-hold = held_none _ _;
-      raws-hold = held_none _ _;
-      answers-hold = held_none _ _;
-    }

@@ -1,13 +1,17 @@
 -- What is proved of the meaning of the value lines: a file is its lines; the values are exactly the value lines, in order, each with its number; what a
 -- comment, an empty line or another value changes; and what an answer says of its line. Assumes nothing.
-use Rattle.std.specs.Prelude.{◌≡◌, Bool, true, false, cond, ℕ, suc, ◌+◌, ◌-◌, ◌≤◌, pos, get_or}
+use Rattle.std.specs.Prelude.{◌≡◌, ◌≢◌, Bool, true, false, cond, ℕ, zero, suc, ◌+◌, ◌-◌, ◌≤◌, leb, pos, get_or}
 use Rattle.std.proofs.Math.Path.{refl, ap}
-use Rattle.std.proofs.Common.{sym, ◌∙◌, arith, ne_eqb}
+use Rattle.std.proofs.Common.{sym, subst, ◌∙◌, arith, ne_eqb}
 use mathlib.Core.List.{List, [], ◌∷◌, ◌++◌, map, append-nil, append_assoc, Memᴰ}
 use Rattle.std.proofs.Math.ListN.{length}
-use Rattle.format.specs.Meaning.{signed, Outcome, done, refused, signed_answer, number_s, value_s}
-use Rattle.grammar.specs.Meaning.{literal_of}
-use Rattle.grammar.specs.Theorems.{Early, width, frac, base, size, literal-early}
+use Rattle.format.specs.declared.refusal.Refusal.{Refusal}
+use Rattle.format.specs.declared.refusal.Refusal.TheVariants.{WrongWidth, WrongFrac, WrongRadix, TooLong, WrongLength, Overflow, NoDigits, MisplacedSign, InvalidDigit, MisplacedUnderscore, TooManyPoints, ExpInvalidDigit, ExpNoDigits, TooManyExp, ExpOverflow, NotANumber, ZeroDivisor, NotPositive, WrongTaps, TooManyValues}
+use Rattle.format.specs.Meaning.{signed, signed_kind, Outcome, done, refused, answered, number, named, number_in, value_in, fault_of, is_width, fits, settle, guarded, with_sign}
+use Rattle.format.specs.declared.Manner.TheVariants.{Strict}
+use Rattle.grammar.specs.Meaning.{literal_of, literal_radix, literal_reading, Reading, outcome_of, raw_of, text_limit}
+use Rattle.grammar.specs.Accepted.{Says, says, says-not}
+use Rattle.grammar.specs.Agrees.{literal-says}
 use Rattle.value_lines.specs.Meaning.{line_feed, onto, lines_of, is_value, ValueLine, value_line, values_from, answer_of, raw_at, number_at}
 
 -- ---- A file is its lines.
@@ -120,27 +124,81 @@ values-later n (line ∷ lines) = go (is_value line) (values-later (n + 1) lines
     go false h = h
 
 -- ---- An answer in the list is 0 exactly if the line is a literal of the format, and then the raw is its value; a refused line has raw 0.
-outcome-zero : (line : List ℕ) → literal_of signed 16 15 line ≡ refused 0 → ⊥
-outcome-zero line e = never ((literal-early signed 16 15 line 0 (omega arith)).0 e) refl
+-- no refusal has the number 0
+some-number : (e : Refusal) → number e ≢ 0
+unfolding number
+some-number WrongWidth z = omega arith
+some-number WrongFrac z = omega arith
+some-number WrongRadix z = omega arith
+some-number TooLong z = omega arith
+some-number WrongLength z = omega arith
+some-number Overflow z = omega arith
+some-number NoDigits z = omega arith
+some-number MisplacedSign z = omega arith
+some-number InvalidDigit z = omega arith
+some-number MisplacedUnderscore z = omega arith
+some-number TooManyPoints z = omega arith
+some-number ExpInvalidDigit z = omega arith
+some-number ExpNoDigits z = omega arith
+some-number TooManyExp z = omega arith
+some-number ExpOverflow z = omega arith
+some-number NotANumber z = omega arith
+some-number ZeroDivisor z = omega arith
+some-number NotPositive z = omega arith
+some-number WrongTaps z = omega arith
+some-number TooManyValues z = omega arith
+
+-- a literal is refused with a number of the table
+in_table : (k : ℕ) → k ≤ 9 → number (named (10 + k)) ≡ 10 + k
+unfolding number named
+in_table zero h = refl
+in_table (suc zero) h = refl
+in_table (suc (suc zero)) h = refl
+in_table (suc (suc (suc zero))) h = refl
+in_table (suc (suc (suc (suc zero)))) h = refl
+in_table (suc (suc (suc (suc (suc zero))))) h = refl
+in_table (suc (suc (suc (suc (suc (suc zero)))))) h = refl
+in_table (suc (suc (suc (suc (suc (suc (suc zero))))))) h = refl
+in_table (suc (suc (suc (suc (suc (suc (suc (suc zero)))))))) h = refl
+in_table (suc (suc (suc (suc (suc (suc (suc (suc (suc zero))))))))) h = refl
+in_table (suc (suc (suc (suc (suc (suc (suc (suc (suc (suc k)))))))))) h = absurd (omega arith)
+
+listed : (n : ℕ) → 10 ≤ n → n ≤ 19 → number (named n) ≡ n
+listed n h k =
+    let e : 10 + (n - 10) ≡ n = omega arith in
+    subst (λ (m : ℕ). number (named m) ≡ m) e (in_table (n - 10) (omega arith))
+
+reading-listed : (radix : ℕ) {r : Reading} → Says radix r → (n : ℕ) → outcome_of Strict signed 16 15 radix r ≡ refused n → number (named n) ≡ n
+unfolding outcome_of settle
+reading-listed radix (says {x} h) n e = go (fits signed 16 (with_sign x.neg (raw_of radix 15 x))) e
   where
-    never : {w f radix : ℕ} {t : List ℕ} {n : ℕ} → Early w f radix t n → n ≡ 0 → ⊥
-    never (width p) e = omega arith
-    never (frac p q) e = omega arith
-    never (base p q r) e = omega arith
-    never (size p q r s) e = omega arith
+    go : (t : Bool) → cond t (done (with_sign x.neg (raw_of radix 15 x)) false) (refused 10) ≡ refused n → number (named n) ≡ n
+    go true e = cc
+    go false e = let same : n ≡ 10 = cc in listed n (omega arith) (omega arith)
+reading-listed radix (says-not {n = m} l h) n e = let same : m ≡ n = cc in listed n (omega arith) (omega arith)
+
+literal-listed : (line : List ℕ) (n : ℕ) → literal_of signed 16 15 line ≡ refused n → number (named n) ≡ n
+unfolding literal_of guarded fault_of is_width number named
+literal-listed line n e = go (leb (length line) text_limit) e
+  where
+    go : (t : Bool) → cond t (outcome_of Strict signed 16 15 (literal_radix signed line) (literal_reading signed line)) (refused 4) ≡ refused n
+        → number (named n) ≡ n
+    go true e = reading-listed (literal_radix signed line) (literal-says signed line) n e
+    go false e = let same : 4 ≡ n = cc in subst (λ (m : ℕ). number (named m) ≡ m) same refl
 
 pub accepted-value : (v : ValueLine) → number_at v ≡ 0 → (f : Bool) × (literal_of signed 16 15 v.text ≡ done (raw_at v) f)
-unfolding number_at raw_at answer_of signed_answer number_s value_s
-accepted-value v e = go (literal_of signed 16 15 v.text) refl e
+unfolding number_at raw_at answer_of answered number_in value_in
+accepted-value v e = go (literal_of signed 16 15 v.text) e
   where
-    go : (o : Outcome) → literal_of signed 16 15 v.text ≡ o → number_s (signed_answer o) ≡ 0 → (f : Bool) × (o ≡ done (value_s (signed_answer o)) f)
-    go (done x f) p e = (f, refl)
-    go (refused n) p e = absurd (outcome-zero v.text (p ∙ ap refused e))
+    go : (o : Outcome) → number_in (answered signed_kind o) ≡ 0 → (f : Bool) × (o ≡ done (value_in signed_kind (answered signed_kind o)) f)
+    go (done x f) e = (f, refl)
+    go (refused n) e = absurd (some-number (named n) e)
 
 pub refused-value : (v : ValueLine) → (number_at v ≡ 0 → ⊥) → (literal_of signed 16 15 v.text ≡ refused (number_at v)) × (raw_at v ≡ pos 0)
-unfolding number_at raw_at answer_of signed_answer number_s value_s
-refused-value v h = go (literal_of signed 16 15 v.text) h
+unfolding number_at raw_at answer_of answered number_in value_in
+refused-value v h = go (literal_of signed 16 15 v.text) refl h
   where
-    go : (o : Outcome) → (number_s (signed_answer o) ≡ 0 → ⊥) → (o ≡ refused (number_s (signed_answer o))) × (value_s (signed_answer o) ≡ pos 0)
-    go (done x f) h = absurd (h refl)
-    go (refused n) h = (refl, refl)
+    go : (o : Outcome) → literal_of signed 16 15 v.text ≡ o → (number_in (answered signed_kind o) ≡ 0 → ⊥)
+        → (o ≡ refused (number_in (answered signed_kind o))) × (value_in signed_kind (answered signed_kind o) ≡ pos 0)
+    go (done x f) p h = absurd (h refl)
+    go (refused n) p h = (ap refused (sym (literal-listed v.text n p)), refl)

@@ -8,24 +8,20 @@ ghost use Rattle.value_lines.specs.Store.{Entered, AllEntered};
 
 mod line;
 
+const LINE_FEED: u8 = 10;
+
 // How many value lines there are, refused ones too.
 pub fn count(file: &[u8]) -> usize
     requires { length file.now ≤ file_limit }
     ensures { result ≡ length (values_of file.now) }
 {
-    let mut n: usize = 0;
-    let mut at: usize = 0;
-    while at < file.len() {
-        let line = line::line_at(file, at);
-        if line::is_value(line) {
-            n += 1;
-        }
-        at += line.len() + 1;
-    }
-    n
+    file.split(|b| *b == LINE_FEED)
+        .filter(|line| line::is_value(line))
+        .count()
 }
 
-// A value line into place n of the list; any other line is passed. The next place.
+// A value line into place n of the list, whose parts are the three slices that C lends: a raw is 0 where the line is
+// refused, an answer 0 where it is not. Any other line is passed. The next place.
 fn enter(
     line: &[u8],
     number: u32,
@@ -41,9 +37,10 @@ fn enter(
         answers.old lines.new raws.new answers.new result }
 {
     if line::is_value(line) {
-        let value = line::read_value(line);
-        let raw = value.raw;
-        let answer = value.answer;
+        let (raw, answer) = match line::read_value(line) {
+            Ok(raw) => (raw, 0),
+            Err(refusal) => (0, refusal.number()),
+        };
         lines[n] = number;
         raws[n] = raw;
         answers[n] = answer;
@@ -63,11 +60,9 @@ pub fn store(file: &[u8], lines: &mut [u32], raws: &mut [i16], answers: &mut [u3
 {
     let mut n: usize = 0;
     let mut number: u32 = 0;
-    let mut at: usize = 0;
-    while at < file.len() {
-        let line = line::line_at(file, at);
+    // a line more, an empty one, where LF ends the file: it holds no value
+    for line in file.split(|b| *b == LINE_FEED) {
         number += 1;
         n = enter(line, number, n, lines, raws, answers);
-        at += line.len() + 1;
     }
 }

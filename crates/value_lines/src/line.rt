@@ -1,12 +1,9 @@
-// One line of the file: where it ends, whether it holds a value, and what the literal reader makes of it.
-ghost use Rattle.std.specs.Prelude.{◌≡◌, ◌≤◌, length, drop};
+// One line of the file: whether it holds a value, and what the literal reader makes of it.
+ghost use Rattle.std.specs.Prelude.{◌≡◌};
 ghost use Rattle.value_lines.specs.Meaning.{is_value};
-ghost use Rattle.value_lines.specs.Lines.{first_line};
 ghost use Rattle.value_lines.specs.Literal.{line_value};
 
-use format::SignedAnswer;
-
-const LINE_FEED: u8 = 10;
+use format::Refusal;
 
 const COMMENT: u8 = 35;
 
@@ -15,48 +12,20 @@ const WIDTH: u32 = 16;
 
 const FRAC: u32 = 15;
 
-// What a value line gives: its raw, 0 where it is refused; and its answer, 0 where it is not.
-#[derive(Clone, Copy)]
-pub(crate) struct Value {
-    pub raw: i16,
-    pub answer: u32,
-}
-
-// The line that starts at a place: a part of the file.
-pub(crate) fn line_at(file: &[u8], from: usize) -> &[u8]
-    requires { from ≤ length file.now }
-    ensures { result.now ≡ first_line (drop from file.now) }
-{
-    let mut end = from;
-    while end < file.len() {
-        if file[end] == LINE_FEED {
-            return &file[from..end];
-        }
-        end += 1;
-    }
-    &file[from..end]
-}
-
 // Neither empty nor a comment.
 pub(crate) fn is_value(line: &[u8]) -> bool
     ensures { result ≡ is_value line.now }
 {
-    if line.len() == 0 {
-        return false;
+    match line {
+        [] => false,
+        [first, ..] => *first != COMMENT,
     }
-    line[0] != COMMENT
 }
 
 // The literal of a line. A strict raw of 16 bits loses nothing as one.
-pub(crate) fn read_value(line: &[u8]) -> Value
+pub(crate) fn read_value(line: &[u8]) -> Result<i16, Refusal>
     ensures { result ≡ line_value line.now }
 {
-    let read = text::signed::read_literal(line, WIDTH, FRAC);
-    match read {
-        SignedAnswer::Done { raw, flag: _ } => Value {
-            raw: raw as i16,
-            answer: 0,
-        },
-        SignedAnswer::Refused(n) => Value { raw: 0, answer: n },
-    }
+    let read = text::read_literal::<i64>(line, WIDTH, FRAC)?;
+    Ok(read.raw as i16)
 }

@@ -1,25 +1,28 @@
 -- `read` meets its promise: what is refused first, then the list, then the first refused line or the taps. Assumes nothing.
-use mathlib.Core.Path.{ap}
-use native.Mathlib.Omega.{arith}
-use lib.ListN.{length}
+use Rattle.std.proofs.Common.{◌≡◌, ◌∙◌, refl, ap, arith, length, List, ℕ, ℤ, Err}
+use Rattle.std.proofs.lemmas.Result.{err_from_is_err_and}
 use Rattle.value_lines.specs.Meaning.{line_number, raw_at, number_at, values_of}
-use Rattle.fitting.specs.Meaning.{fitted_of}
+use Rattle.fitting.specs.Meaning.{FileAnswer, Fitted, fitted, fitted_of}
 use Rattle.fitting.specs.Read.{roomy_of, over-long}
-use Rattle.fitting.proofs.Reading.{refused-first, checked-done, refused-line, done-count, all_done}
+use Rattle.fitting.proofs.Reading.{refused-first, checked-done, refused-line, all_done}
 use Rattle.fitting.proofs.read.Goals as goal
 
-pub returns-in_default : goal.returns-in_default
+-- what a `?` returned stands for the refusal
+gives : {r s : FileAnswer} {lines answers : List ℕ} {raws taps : List ℤ} {f : Fitted} → r ≡ s → fitted s lines raws answers taps ≡ f
+    → fitted r lines raws answers taps ≡ f
+gives e h = rw e h
+
+pub returns-in_err-values : goal.returns-in_err-values
 unfolding fitted_of roomy_of
-returns-in_default c =
+returns-in_err-values c =
     let a = c.args in
-    refused-first _ _ _ a.file.now a.lines.now a.raws.now a.answers.now a.taps.now c.check-checked.ensures
-    c.in_default.not-Done
+    let p = err_from_is_err_and c.from_residual.result c.from_residual.ensures.1 in
+    gives (p.1 ∙ ap Err p.2) (refused-first _ _ _ a.file.now a.lines.now a.raws.now a.answers.now a.taps.now c.in_err-values.ensures)
 
 pub store-requires : goal.store-requires
 store-requires c =
     let a = c.args in
-    let k = checked-done _ _ _ a.file.now a.lines.now a.raws.now a.answers.now a.taps.now c.check-checked.ensures
-    c.in-Done.is in
+    let k = checked-done _ _ _ a.file.now a.lines.now a.raws.now a.answers.now a.taps.now c.in_ok-values.ensures in
     record {
       short_file = k.room.short;
       lines_room = k.room.lines-room;
@@ -27,11 +30,10 @@ store-requires c =
       answers_room = k.room.answers-room;
     }
 
-pub judge-judged-requires : goal.judge-judged-requires
-judge-judged-requires c =
+pub judge-requires : goal.judge-requires
+judge-requires c =
     let a = c.args in
-    let k = checked-done _ _ _ a.file.now a.lines.now a.raws.now a.answers.now a.taps.now c.check-checked.ensures
-    c.in-Done.is in
+    let k = checked-done _ _ _ a.file.now a.lines.now a.raws.now a.answers.now a.taps.now c.in_ok-values.ensures in
     let st = c.store.ensures in
     let vs = values_of a.file.now in
     record {
@@ -39,34 +41,28 @@ judge-judged-requires c =
       answers_room = omega (arith, k.count, ap length st.answers-are, over-long number_at vs a.answers.now);
     }
 
-pub returns-in_default-judged : goal.returns-in_default-judged
+pub returns-in_err-judge : goal.returns-in_err-judge
 unfolding fitted_of roomy_of
-returns-in_default-judged c =
+returns-in_err-judge c =
     let a = c.args in
-    let k = checked-done _ _ _ a.file.now a.lines.now a.raws.now a.answers.now a.taps.now c.check-checked.ensures
-    c.in-Done.is in
-    refused-line _ _ _ a.file.now a.lines.now a.raws.now a.answers.now a.taps.now k c.store.ensures
-    c.judge-judged.ensures c.in_default-judged.not-Done
+    let k = checked-done _ _ _ a.file.now a.lines.now a.raws.now a.answers.now a.taps.now c.in_ok-values.ensures in
+    let p = err_from_is_err_and c.from_residual-in_err-judge.result c.from_residual-in_err-judge.ensures.1 in
+    gives (p.1 ∙ ap Err p.2)
+    (refused-line _ _ _ a.file.now a.lines.now a.raws.now a.answers.now a.taps.now k c.store.ensures c.in_err-judge.ensures refl)
 
 pub keep-requires : goal.keep-requires
 keep-requires c =
     let a = c.args in
-    let k = checked-done _ _ _ a.file.now a.lines.now a.raws.now a.answers.now a.taps.now c.check-checked.ensures
-    c.in-Done.is in
+    let k = checked-done _ _ _ a.file.now a.lines.now a.raws.now a.answers.now a.taps.now c.in_ok-values.ensures in
     let st = c.store.ensures in
-    let vs = values_of a.file.now in
-    let same = done-count _ _ _ a.file.now a.lines.now a.raws.now a.answers.now a.taps.now k st c.judge-judged.ensures
-    c.in-Done-judged.is in
     record {
-      raws_room = omega (arith, same, ap length st.raws-are, over-long raw_at vs a.raws.now);
-      taps_room = omega (arith, same, k.room.taps-room);
+      raws_room = omega (arith, k.count, ap length st.raws-are, over-long raw_at (values_of a.file.now) a.raws.now);
+      taps_room = omega (arith, k.count, k.room.taps-room);
     }
 
 pub returns : goal.returns
 unfolding fitted_of roomy_of
 returns c =
     let a = c.args in
-    let k = checked-done _ _ _ a.file.now a.lines.now a.raws.now a.answers.now a.taps.now c.check-checked.ensures
-    c.in-Done.is in
-    all_done _ _ _ a.file.now a.lines.now a.raws.now a.answers.now a.taps.now k c.store.ensures
-    c.judge-judged.ensures c.in-Done-judged.is c.keep.ensures
+    let k = checked-done _ _ _ a.file.now a.lines.now a.raws.now a.answers.now a.taps.now c.in_ok-values.ensures in
+    all_done _ _ _ a.file.now a.lines.now a.raws.now a.answers.now a.taps.now k c.store.ensures c.in_ok-judge.ensures refl c.keep.ensures

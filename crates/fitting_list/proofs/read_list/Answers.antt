@@ -8,7 +8,6 @@ pub loop-i-init : goal.loop-i-init
 loop-i-init c =
     let small = count_small c.args.file.now (length c.args.list.now) (length c.args.taps.now) in
     record {
-      turns = omega arith;
       few = omega (arith, c.find-f.ensures.count);
       room = omega (arith, c.find-f.ensures.count);
       stored = sym (filled_zero c.find-f.result c.args.list.now);
@@ -16,7 +15,6 @@ loop-i-init c =
 
 pub loop-i-preserved : goal.loop-i-preserved
 loop-i-preserved c = record {
-  turns = omega arith;
   few = omega arith;
   room = omega (arith, length-set c.loop-i.list c.loop-i.i c.pick.result);
   stored = rw (filled_next c.find-f.result c.args.list.now c.loop-i.i, ← c.loop-i.invariant.stored, c.pick.ensures);

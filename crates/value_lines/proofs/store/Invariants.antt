@@ -1,11 +1,9 @@
--- `value_lines::store` meets its contract. The loop's invariant: the lines before place `at` are through. Assumes nothing.
-use Prim.Native.Nat.{◌-◌, ◌+◌}
-use lib.ListN.{length}
+-- `value_lines::store` meets its contract. The loop's invariant: the lines that came are through. Assumes nothing.
+use Rattle.std.proofs.Common.{◌≡◌, length}
 use Rattle.value_lines.specs.Store.{SoFar}
 use Rattle.value_lines.proofs.store.Given as goal
 
-abbrev pub invariant-loop-at : goal.invariant-loop-at
-invariant-loop-at l = SoFar l.file l.initial.lines l.initial.raws l.initial.answers l.lines l.raws l.answers l.n l.number l.at
-
-abbrev pub decreases-loop-at : goal.decreases-loop-at
-decreases-loop-at l = length l.file + 1 - l.at
+abbrev pub invariant-loop-line : goal.invariant-loop-line
+invariant-loop-line l =
+    (l.number ≡ length l.yielded)
+    × SoFar l.file l.initial.lines l.initial.raws l.initial.answers l.lines l.raws l.answers l.n l.number
