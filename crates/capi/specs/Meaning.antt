@@ -5,8 +5,7 @@ use mir.Val.{bool_byte}
 use Rattle.format.specs.declared.Manner.{Manner}
 use Rattle.format.specs.declared.Manner.TheVariants.{Strict, Saturating, Wrapping, Overflowing}
 use Rattle.format.specs.Meaning.{Answered, signed_kind, unsigned_kind, number_in, value_in, flag_in}
-use Rattle.fitting.specs.declared.FileAnswer.{FileAnswer}
-use Rattle.fitting.specs.Meaning.{number_f, values_f, line_f, inner_f}
+use Rattle.fitting.specs.Meaning.{FileAnswer, number_f, values_f, line_f, inner_f}
 use Rattle.capi.specs.declared.answer.CSigned.{CSigned}
 use Rattle.capi.specs.declared.answer.CUnsigned.{CUnsigned}
 use Rattle.capi.specs.declared.c_fitting.CFile.{CFile}

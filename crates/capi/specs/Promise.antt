@@ -3,7 +3,7 @@
 use Rattle.std.specs.Prelude.{◌≡◌, ℕ, ℤ}
 use Rattle.std.proofs.Common.{sym, ap, ◌∙◌}
 use Rattle.format.specs.Meaning.{Answered}
-use Rattle.fitting.specs.declared.FileAnswer.{FileAnswer}
+use Rattle.fitting.specs.Meaning.{FileAnswer}
 use Rattle.capi.specs.declared.answer.CSigned.{CSigned}
 use Rattle.capi.specs.declared.answer.CUnsigned.{CUnsigned}
 use Rattle.capi.specs.declared.c_fitting.CFile.{CFile}

@@ -4,7 +4,7 @@ ghost use Rattle.fitting.specs.Promise.{Reads};
 ghost use Rattle.capi.specs.Meaning.{file_of};
 ghost use Rattle.capi.specs.Promise.{File};
 
-use fitting::FileAnswer;
+use fitting::{FileAnswer, FileRefusal};
 
 const REFUSED_LINE: u32 = 42;
 
@@ -18,28 +18,30 @@ pub struct CFile {
     pub values: u32,
 }
 
-fn copied(a: FileAnswer) -> CFile
-    ensures { result ≡ file_of a }
-{
-    match a {
-        FileAnswer::Done { values } => CFile {
-            number: 0,
-            line: 0,
-            inner: 0,
-            values,
-        },
-        FileAnswer::Refused(n) => CFile {
-            number: n,
-            line: 0,
-            inner: 0,
-            values: 0,
-        },
-        FileAnswer::Line { line, inner } => CFile {
-            number: REFUSED_LINE,
-            line,
-            inner,
-            values: 0,
-        },
+impl From<FileAnswer> for CFile {
+    ghost from_gives = { λ a r. r ≡ file_of a };
+
+    fn from(a: FileAnswer) -> CFile {
+        match a {
+            Ok(values) => CFile {
+                number: 0,
+                line: 0,
+                inner: 0,
+                values,
+            },
+            Err(FileRefusal::Whole(refusal)) => CFile {
+                number: refusal.number(),
+                line: 0,
+                inner: 0,
+                values: 0,
+            },
+            Err(FileRefusal::Line { line, inner }) => CFile {
+                number: REFUSED_LINE,
+                line,
+                inner,
+                values: 0,
+            },
+        }
     }
 }
 
@@ -55,5 +57,5 @@ pub extern "C" fn tq_fitting(
         file.now lines.old raws.old answers.old taps.old
         a lines.new raws.new answers.new taps.new) result }
 {
-    copied(fitting::read(file, lines, raws, answers, taps))
+    fitting::read(file, lines, raws, answers, taps).into()
 }
