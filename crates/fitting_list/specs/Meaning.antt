@@ -1,10 +1,9 @@
 -- The fitting file with its list as records: document 01, module 9. Assumes nothing.
-use Rattle.std.specs.Prelude.{cond, List, map, ℕ, ℤ, length}
-use Rattle.format.specs.Meaning.{guarded}
+use Rattle.std.specs.Prelude.{Err, cond, List, map, ℕ, ℤ, length}
+use Rattle.format.specs.Meaning.{named, guarded}
 use Rattle.value_lines.specs.Meaning.{ValueLine, values_of, line_number, raw_at, number_at, over}
-use Rattle.fitting.specs.declared.FileAnswer.{FileAnswer}
-use Rattle.fitting.specs.declared.FileAnswer.TheVariants.{Refused}
-use Rattle.fitting.specs.Meaning.{judge_all, accepted, file_fault}
+use Rattle.fitting.specs.declared.FileRefusal.TheVariants.{Whole}
+use Rattle.fitting.specs.Meaning.{FileAnswer, judge_all, accepted, file_fault}
 use Rattle.fitting_list.specs.declared.Entry.{Entry}
 
 -- "A list with line number, raw and answer for each value"
@@ -23,6 +22,6 @@ records answer list taps = record { answer = answer; list = list; taps = taps }
 unfoldable pub records_of : List ℕ → List Entry → List ℤ → Listed
 records_of file list taps =
     guarded (file_fault (length file) (length (values_of file)) (length list) (length list) (length list) (length taps))
-    (λ n. records (Refused n) list taps)
+    (λ n. records (Err (Whole (named n))) list taps)
     (records (judge_all (values_of file)) (over (map entry_of (values_of file)) list)
     (cond (accepted (values_of file)) (over (map raw_at (values_of file)) taps) taps))

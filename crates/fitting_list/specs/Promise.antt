@@ -2,7 +2,7 @@
 -- that meet the promise are equal. Assumes nothing.
 use Rattle.std.specs.Prelude.{◌≡◌, List, ℕ, ℤ}
 use Rattle.std.proofs.Common.{sym, ◌∙◌}
-use Rattle.fitting.specs.declared.FileAnswer.{FileAnswer}
+use Rattle.fitting.specs.Meaning.{FileAnswer}
 use Rattle.fitting_list.specs.declared.Entry.{Entry}
 use Rattle.fitting_list.specs.Meaning.{records, records_of}
 

@@ -5,7 +5,7 @@
 ghost use Rattle.std.specs.Prelude.{◌≤◌, length, IfOk};
 ghost use Rattle.fitting_list.specs.Promise.{ReadsList};
 
-use fitting::FileAnswer;
+use fitting::{FileAnswer, FileRefusal};
 use fitting_list::Entry;
 use std::io::Read;
 use std::rt::Files;
@@ -67,9 +67,9 @@ fn read(file: &[u8], mut list: [Entry; PLACES], mut taps: [i16; PLACES]) -> Afte
 // The answer's number, values, line and inner answer; then every place.
 fn show(rt: &impl Print, after: After) -> io::Result<()> {
     match after.answer {
-        FileAnswer::Done { values } => println!(rt; "answer 0 {values} 0 0")?,
-        FileAnswer::Refused(number) => println!(rt; "answer {number} 0 0 0")?,
-        FileAnswer::Line { line, inner } => println!(rt; "answer 42 0 {line} {inner}")?,
+        Ok(values) => println!(rt; "answer 0 {values} 0 0")?,
+        Err(FileRefusal::Whole(refusal)) => println!(rt; "answer {} 0 0 0", refusal.number())?,
+        Err(FileRefusal::Line { line, inner }) => println!(rt; "answer 42 0 {line} {inner}")?,
     }
     for (entry, tap) in after.list.iter().zip(&after.taps) {
         println!(rt; "line {} {} {} {tap}", entry.line, entry.raw, entry.answer)?;

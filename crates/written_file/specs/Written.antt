@@ -1,7 +1,7 @@
 -- A fitting file whose lines are the writer's texts of raws, each ended by LF, gives back those raws: done, and the taps are the raws.
 -- The idea: every byte that the writer writes is `-`, `.` or a digit, so a line holds no LF, starts no comment, and the literal reader reads it as the
 -- plain reader does. Assumes nothing.
-use Rattle.std.specs.Prelude.{◌≡◌, refl, ◌⊎◌, Bool, true, false, cond, ℕ, suc, ◌+◌, ◌*◌, ◌%◌, ◌^◌, ◌≤◌, ◌<◌, eqb, ℤ, pos, negsuc, length}
+use Rattle.std.specs.Prelude.{◌≡◌, refl, ◌⊎◌, Bool, true, false, cond, ℕ, suc, ◌+◌, ◌*◌, ◌%◌, ◌^◌, ◌≤◌, ◌<◌, eqb, ℤ, pos, negsuc, length, Ok}
 use Rattle.std.proofs.Common.{sym, ◌∙◌, subst, inl, inr, arith, length-append}
 use Rattle.std.proofs.Math.Path.{ap}
 use Rattle.std.proofs.lemmas.Bool.{false≢true}
@@ -9,7 +9,7 @@ use mathlib.Core.List.Memᴰ
 use mathlib.Core.List.{List, [], ◌∷◌, ◌++◌, map, Memᴰ}
 use borrow.Author.Tests.{ne_eqb, eq-eqb, le-leb}
 use Rattle.format.specs.declared.Manner.TheVariants.{Strict}
-use Rattle.format.specs.Meaning.{signed, done, fault_of, is_width, signed_answer, number_s, value_s, guarded}
+use Rattle.format.specs.Meaning.{signed, done, fault_of, is_width, signed_kind, answered, number_in, value_in, guarded}
 use Rattle.format.specs.Theorems.{InRange}
 use Rattle.grammar.specs.Meaning.{is_sign, prefix_mark, prefix_radix, literal_minus, literal_radix, literal_of}
 use Rattle.grammar.specs.Literals.{short-prefix, same-either, Opens}
@@ -24,7 +24,6 @@ use Rattle.value_lines.specs.Meaning.{file_limit, line_feed, hash, is_value, Val
 use Rattle.value_lines.specs.Meaning.{values_of, answer_of, line_number, raw_at, number_at, over, lines_of}
 use Rattle.value_lines.specs.Lines.{value-more}
 use Rattle.value_lines.specs.Theorems.{NoFeeds, none, more, joined_lines, lines-joined}
-use Rattle.fitting.specs.declared.FileAnswer.TheVariants.{Done}
 use Rattle.fitting.specs.Meaning.{judge, accepted, room_fault, file_fault, fitted, fitted_of}
 use Rattle.fitting.specs.Read.{judge-done}
 
@@ -156,7 +155,7 @@ pub record Read (rs : List ℤ) (vs : List ValueLine) : Type 0 where
   pub all : accepted vs ≡ true
 
 one_line : (n : ℕ) (r : ℤ) → InRange signed 16 r → (raw_at (value_line n (line_of r)) ≡ r) × (number_at (value_line n (line_of r)) ≡ 0)
-unfolding raw_at number_at answer_of signed_answer value_s number_s fault_of is_width
+unfolding raw_at number_at answer_of answered value_in number_in fault_of is_width
 one_line n r h =
     let e = literal-write r 16 15 refl h in
     (rw e, rw e)
@@ -201,8 +200,8 @@ module _ (rs : List ℤ) (range : Raws rs) (some : 1 ≤ length rs) (few : lengt
       )
 
   pub written_back : fitted_of (written_file rs) lines raws answers taps
-      ≡ fitted (Done (length rs)) (over (map line_number vs) lines) (over rs raws) (over (map number_at vs) answers) (over rs taps)
+      ≡ fitted (Ok (length rs)) (over (map line_number vs) lines) (over rs raws) (over (map number_at vs) answers) (over rs taps)
   unfolding fitted_of guarded
   written_back =
-      let told : judge (length vs) vs ≡ Done (length rs) = judge-done (length vs) vs read.all ∙ ap Done read.count in
+      let told : judge (length vs) vs ≡ Ok (length rs) = judge-done (length vs) vs read.all ∙ ap Ok read.count in
       rw (no-fault, told, read.raws-are, read.all)

@@ -7,7 +7,7 @@ use Rattle.fitting_list.proofs.read_list.Given as goal
 
 abbrev pub invariant-loop-i : goal.invariant-loop-i
 invariant-loop-i l = record {
-  few : l.i-end ≤ most_taps;
-  room : l.i-end ≤ length l.list;
-  stored : l.list ≡ filled l.f l.initial.list l.i;
+  few : l.n ≤ most_taps;
+  room : l.n ≤ length l.list;
+  stored : l.list ≡ filled l.found l.initial.list l.i;
 }

@@ -9,9 +9,9 @@ returns-in-Ok c = copied-done _ c.in-Ok.is
 pub returns-in-Err-Whole : goal.returns-in-Err-Whole
 returns-in-Err-Whole c =
     let v = c.in-Err-Whole in
-    rw c.number.ensures (copied-refusal v.refusal (v.is ∙ ap Err v.field-0-is))
+    rw c.number.ensures (copied-refusal v.refusal (rw v.field-0-is at v.is))
 
 pub returns-in-Err-Line : goal.returns-in-Err-Line
 returns-in-Err-Line c =
     let v = c.in-Err-Line in
-    copied-line v.line v.inner (v.is ∙ ap Err v.field-0-is)
+    copied-line v.line v.inner (rw v.field-0-is at v.is)
