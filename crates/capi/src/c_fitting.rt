@@ -29,19 +29,27 @@ impl From<FileAnswer> for CFile {
                 inner: 0,
                 values,
             },
-            Err(FileRefusal::Whole(refusal)) => CFile {
-                number: refusal.number(),
-                line: 0,
-                inner: 0,
-                values: 0,
-            },
-            Err(FileRefusal::Line { line, inner }) => CFile {
-                number: REFUSED_LINE,
-                line,
-                inner,
-                values: 0,
-            },
+            Err(refusal) => refused(refusal),
         }
+    }
+}
+
+fn refused(refusal: FileRefusal) -> CFile
+    ensures { result ≡ file_of (Err refusal) }
+{
+    match refusal {
+        FileRefusal::Whole(whole) => CFile {
+            number: whole.number(),
+            line: 0,
+            inner: 0,
+            values: 0,
+        },
+        FileRefusal::Line { line, inner } => CFile {
+            number: REFUSED_LINE,
+            line,
+            inner,
+            values: 0,
+        },
     }
 }
 
