@@ -149,7 +149,7 @@ file-short (one-raw {r} {rs} h hs) =
     omega (arith, length-append (line_of r) (line_feed ∷ joined_lines (map line_of rs)), line-short r h, file-short hs)
 
 -- the values: one for each raw, accepted, with the raw
-pub record Read (rs : List ℤ) (vs : List ValueLine) : Type 0 where
+pub record TapsRead (rs : List ℤ) (vs : List ValueLine) : Type 0 where
   pub count : length vs ≡ length rs
   pub raws-are : map raw_at vs ≡ rs
   pub all : accepted vs ≡ true
@@ -160,14 +160,14 @@ one_line n r h =
     let e = literal-write r 16 15 refl h in
     (rw e, rw e)
 
-values : (n : ℕ) {rs : List ℤ} → Raws rs → Read rs (values_from n (map line_of rs))
+values : (n : ℕ) {rs : List ℤ} → Raws rs → TapsRead rs (values_from n (map line_of rs))
 unfolding accepted values_from
 values n no-raw = record { count = refl; raws-are = refl; all = refl }
 values n (one-raw {r} {rs} h hs) =
     let step = value-more n (line_of r) (map line_of rs) (raw-line r 15).value in
     let one = one_line n r h in
     let rest = values (n + 1) hs in
-    subst (Read (r ∷ rs)) (sym step)
+    subst (TapsRead (r ∷ rs)) (sym step)
     (record {
       count = ap suc rest.count;
       raws-are = rw (one.0, rest.raws-are);
@@ -181,7 +181,7 @@ module _ (rs : List ℤ) (range : Raws rs) (some : 1 ≤ length rs) (few : lengt
   abbrev vs : List ValueLine
   vs = values_of (written_file rs)
 
-  read : Read rs vs
+  read : TapsRead rs vs
   unfolding values_of
   read = rw (lines_are rs) (values 1 range)
 
