@@ -1,22 +1,31 @@
 // What a pattern says: its sign, its biased exponent E and its trailing significand T
 // are parts of one number, by shifts and masks.
-ghost use Rattle.float.specs.Parts.{Roomy};
+ghost use Rattle.std.specs.Prelude.{◌≡◌, ◌-◌, ◌^◌, ◌≤◌};
+ghost use Rattle.float.specs.Parts.{Small};
 
 use crate::{bits, rounding};
 use format::Format;
 use wide::Wide;
+
+// E of an infinity or a NaN.
+pub fn last(field: u32) -> u32
+    requires { field ≤ 11 }
+    ensures { result ≡ 2 ^ field - 1 }
+{
+    (1 << field) - 1
+}
 
 // A format of patterns that one word holds: the precision p and the width of the exponent field.
 #[derive(Clone, Copy)]
 pub struct Binary {
     pub precision: u32,
     pub field: u32,
-    pub ghost room: { Roomy precision field },
+    pub ghost small: { Small precision field },
 }
 
 impl Binary {
-    ghost use Rattle.std.specs.Prelude.{◌≡◌, ◌+◌, ◌-◌, ◌^◌, ◌≤◌, ◌<◌};
-    ghost use Rattle.float.specs.Meaning.{negative as negativeOf, biased as biasedOf, bias as biasOf};
+    ghost use Rattle.std.specs.Prelude.{◌+◌, ◌<◌};
+    ghost use Rattle.float.specs.Meaning.{negative as negativeOf, biased as biasedOf};
     ghost use Rattle.float.specs.Meaning.{trailing as trailingOf, least as leastOf};
     ghost use Rattle.float.specs.Parts.{Significand, magnitude_of};
     ghost use Rattle.float.specs.Formats.{binary_of};
@@ -60,19 +69,12 @@ impl Binary {
         pattern & bits::ones(self.precision - 1)
     }
 
-    // E of an infinity or a NaN.
-    pub fn last(self) -> u32
-        ensures { result ≡ 2 ^ self.field - 1 }
-    {
-        (1 << self.field) - 1
-    }
-
     // The magnitude x 2^F, rounded: an infinity counts as 2^64, which is past every format.
     pub fn magnitude(self, pattern: u64, format: Format) -> Wide
         ensures { Folds (magnitude_of (binary_of self) format.frac pattern) result }
     {
         let e = self.biased(pattern);
-        if e == self.last() {
+        if e == last(self.field) {
             return Wide { high: 1, low: 0 };
         }
         let m = self.significand(e, self.trailing(pattern));
@@ -96,12 +98,6 @@ impl Binary {
     pub fn least(self) -> u32
         ensures { result ≡ leastOf (binary_of self) }
     {
-        self.bias() + self.precision - 2
-    }
-
-    fn bias(self) -> u32
-        ensures { result ≡ biasOf (binary_of self) }
-    {
-        (1 << (self.field - 1)) - 1
+        last(self.field - 1) + self.precision - 2
     }
 }

@@ -34,7 +34,7 @@ pub fn nearest(m: u64, k: u32) -> u64
 }
 
 #[tactic(auto, unfolding(laws::specs::Nearest::nearest_by))]
-fn by_rest(whole: u64, rest: u64, unit: u64) -> u64
+pub fn by_rest(whole: u64, rest: u64, unit: u64) -> u64
     requires { (whole < 2 ^ 63) × (rest < 2 ^ 63) }
     ensures { result ≡ nearest_by whole rest unit }
 {

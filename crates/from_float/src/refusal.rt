@@ -4,7 +4,7 @@ ghost use Rattle.format.specs.Meaning.{Refuses};
 ghost use Rattle.float.specs.Formats.{binary_of};
 ghost use Rattle.from_float.specs.Parts.{infinite_fault, pattern_fault};
 
-use float::pattern::Binary;
+use float::pattern::{self, Binary};
 use format::{Manner, Refusal};
 
 // An infinity or a NaN: E is the last one there is.
@@ -13,7 +13,7 @@ pub(crate) fn of_pattern(binary: Binary, pattern: u64, manner: Manner) -> Result
     ensures ok { IfOk result (λ x. pattern_fault (binary_of binary) manner pattern ≡ 0) }
     ensures err { IfErr result (Refuses (pattern_fault (binary_of binary) manner pattern)) }
 {
-    if binary.biased(pattern) == binary.last() {
+    if binary.biased(pattern) == pattern::last(binary.field) {
         if binary.trailing(pattern) == 0 {
             return of_infinity(manner);
         }

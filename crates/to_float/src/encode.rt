@@ -3,6 +3,7 @@
 ghost use Rattle.std.specs.Prelude.{◌≡◌, ◌*◌, ◌^◌, ◌≤◌};
 ghost use Rattle.laws.specs.Nearest.{nearest_even};
 ghost use Rattle.float.specs.Formats.{binary_of};
+ghost use Rattle.float.specs.Parts.{Roomy};
 ghost use Rattle.to_float.specs.Meaning.{pattern_of};
 ghost use Rattle.to_float.specs.Encoding.{Digits, Encoded, place_of};
 
@@ -12,6 +13,7 @@ use format::Format;
 
 // Of the number with this sign and the magnitude size / 2^F.
 pub(crate) fn encode(binary: Binary, neg: bool, size: u64, format: Format) -> u64
+    requires { Roomy binary.precision binary.field }
     ensures { result ≡ pattern_of (binary_of binary) neg size format.frac }
 {
     let magnitude = of_magnitude(binary, size, format);
@@ -24,6 +26,7 @@ pub(crate) fn encode(binary: Binary, neg: bool, size: u64, format: Format) -> u6
 // The significand is added to its place. Its leading one counts as one more in the exponent, so the place is that much
 // lower; and where rounding carries to 2^p, the carry goes into the exponent by itself.
 fn of_magnitude(binary: Binary, size: u64, format: Format) -> u64
+    requires { Roomy binary.precision binary.field }
     ensures { Encoded binary.precision binary.field size format.frac result }
 {
     if size == 0 {
@@ -36,7 +39,8 @@ fn of_magnitude(binary: Binary, size: u64, format: Format) -> u64
 
 // Where the significand's last digit stands, in steps of the least positive number.
 fn place(binary: Binary, digits: u32, format: Format) -> u32
-    requires { digits ≤ 64 }
+    requires room { Roomy binary.precision binary.field }
+    requires word { digits ≤ 64 }
     ensures { result ≡ place_of binary.precision binary.field format.frac digits }
 {
     digits + (binary.least() - format.frac) - binary.precision

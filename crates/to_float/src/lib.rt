@@ -4,6 +4,7 @@
 ghost use Rattle.std.specs.Prelude.{◌≡◌};
 ghost use Rattle.format.specs.Meaning.{answered, unsigned_kind};
 ghost use Rattle.float.specs.Formats.{binary_of};
+ghost use Rattle.float.specs.Parts.{Roomy};
 ghost use Rattle.to_float.specs.Meaning.{to_float_of};
 ghost use Rattle.to_float.specs.Promise.{ToF32, ToF64};
 
@@ -26,6 +27,7 @@ pub fn to_f64<R: Raw>(raw: R, width: u32, frac: u32) -> Answered<u64>
 }
 
 fn to<R: Raw>(binary: Binary, raw: R, width: u32, frac: u32) -> Answered<u64>
+    requires { Roomy binary.precision binary.field }
     ensures { result ≡ answered unsigned_kind (to_float_of (binary_of binary) width frac (R.kind.number_of raw)) }
 {
     let format = Format::new(width, frac)?;

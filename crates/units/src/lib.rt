@@ -1,7 +1,7 @@
 // A number in units of 2^frac steps, in each rounding, once for both signs; and the result in steps.
 #![tactic(auto)]
 
-ghost use Rattle.std.specs.Prelude.{◌≡◌, true, ◌*◌, ◌/◌, ◌%◌, ◌^◌, ◌<◌, pos, ◌-ℤ◌, ◌*ℤ◌};
+ghost use Rattle.std.specs.Prelude.{◌≡◌, true, ◌*◌, ◌/◌, ◌%◌, ◌^◌, ◌≤◌, ◌<◌, pos, ◌-ℤ◌, ◌*ℤ◌};
 ghost use Rattle.std.specs.Ordering.{MatchOrdering};
 ghost use Rattle.laws.specs.Floor.{floor as floor_of};
 ghost use Rattle.laws.specs.Nearest.{nearest_even};
@@ -45,24 +45,26 @@ pub fn round_ties_even(x: Number, format: Format) -> Exact
 }
 
 // The integer part: x down, and 0 where there are no integer bits.
-pub fn int(x: Number, format: Format) -> Exact
-    ensures { exact_of result ≡ int_part format.width format.frac (number_of x) }
+pub fn int(x: Number, width: u32, frac: u32) -> Exact
+    requires { (frac ≤ width) × (width ≤ 64) }
+    ensures { exact_of result ≡ int_part width frac (number_of x) }
 {
-    if format.frac == format.width {
+    if frac == width {
         exact::of_number(exact::of(0u64))
     } else {
-        floor(x, format)
+        floor(x, Format { width: 64, frac })
     }
 }
 
 // What the integer part leaves: x itself where there are no integer bits.
-pub fn frac(x: Number, format: Format) -> Exact
-    ensures { exact_of result ≡ frac_part format.width format.frac (number_of x) }
+pub fn frac(x: Number, width: u32, frac: u32) -> Exact
+    requires { (frac ≤ width) × (width ≤ 64) }
+    ensures { exact_of result ≡ frac_part width frac (number_of x) }
 {
-    if format.frac == format.width {
+    if frac == width {
         exact::of_number(x)
     } else {
-        exact::of_number(exact::of(modulo(x, 1u64 << format.frac)))
+        exact::of_number(exact::of(modulo(x, 1u64 << frac)))
     }
 }
 

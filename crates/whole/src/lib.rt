@@ -1,6 +1,9 @@
 // Whole numbers of a format: a raw rounded to units of 2^F steps, and its two parts; then the manner of `format`.
 #![tactic(auto)]
 
+ghost use Rattle.std.specs.Prelude.{◌≡◌};
+ghost use Rattle.exact.specs.Meaning.{number_of, exact_of};
+ghost use Rattle.units.specs.Meaning.{int_part, frac_part};
 ghost use Rattle.whole.specs.Promise.{Floor, Ceil, Round, Even, Int, Frac};
 ghost use Rattle.whole.specs.Step.{StepFitted};
 
@@ -39,14 +42,27 @@ pub fn round_ties_even<R: Raw>(a: R, width: u32, frac: u32, manner: Manner) -> A
 pub fn int<R: Raw>(a: R, width: u32, frac: u32, manner: Manner) -> Answered<R>
     ensures { Int R.kind a width frac manner result }
 {
-    stepped(a, width, frac, manner, units::int)
+    stepped(a, width, frac, manner, int_in)
 }
 
 // What the integer part leaves of a
 pub fn frac<R: Raw>(a: R, width: u32, frac: u32, manner: Manner) -> Answered<R>
     ensures { Frac R.kind a width frac manner result }
 {
-    stepped(a, width, frac, manner, units::frac)
+    stepped(a, width, frac, manner, frac_in)
+}
+
+// The two parts, of a format: what `units` takes apart by any two numbers with F up to W up to 64.
+fn int_in(x: Number, format: Format) -> Exact
+    ensures { exact_of result ≡ int_part format.width format.frac (number_of x) }
+{
+    units::int(x, format.width, format.frac)
+}
+
+fn frac_in(x: Number, format: Format) -> Exact
+    ensures { exact_of result ≡ frac_part format.width format.frac (number_of x) }
+{
+    units::frac(x, format.width, format.frac)
 }
 
 // What the step makes of a in its format, in the manner

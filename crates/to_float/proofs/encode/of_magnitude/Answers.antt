@@ -15,9 +15,9 @@ significand-requires c = digits-of c.args.size (omega arith) c.ranges.size.fits
 pub overflow_add-result : goal.overflow_add-result
 overflow_add-result c =
     let digits = digits-of c.args.size (omega arith) c.ranges.size.fits in
-    record { fits = sum_fits _ _ _ _ _ c.args.binary.room digits (frac_within _ _ c.args.format.one_of_four c.args.format.within) (c.from-place.ensures ∙ c.place.ensures) c.significand.ensures }
+    record { fits = sum_fits _ _ _ _ _ c.requires digits (frac_within _ _ c.args.format.one_of_four c.args.format.within) (c.from-place.ensures ∙ c.place.ensures) c.significand.ensures }
 
 pub returns : goal.returns
 returns c =
     let digits = digits-of c.args.size (omega arith) c.ranges.size.fits in
-    encoded _ _ _ _ _ c.args.binary.room digits (frac_within _ _ c.args.format.one_of_four c.args.format.within) (c.from-place.ensures ∙ c.place.ensures) c.significand.ensures
+    encoded _ _ _ _ _ c.requires digits (frac_within _ _ c.args.format.one_of_four c.args.format.within) (c.from-place.ensures ∙ c.place.ensures) c.significand.ensures

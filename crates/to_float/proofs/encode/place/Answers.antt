@@ -5,7 +5,7 @@ use Rattle.to_float.specs.Encoding.{roomy-least}
 use Rattle.to_float.proofs.encode.place.Goals as goal
 
 pub overflow_sub-result : goal.overflow_sub-result
-overflow_sub-result c = omega (arith, c.least.ensures, roomy-least _ _ c.args.binary.room, frac_within _ _ c.args.format.one_of_four c.args.format.within)
+overflow_sub-result c = omega (arith, c.least.ensures, roomy-least _ _ c.requires.room, frac_within _ _ c.args.format.one_of_four c.args.format.within)
 
 pub overflow_sub-result-2 : goal.overflow_sub-result-2
-overflow_sub-result-2 c = omega (arith, c.least.ensures, roomy-least _ _ c.args.binary.room, frac_within _ _ c.args.format.one_of_four c.args.format.within)
+overflow_sub-result-2 c = omega (arith, c.least.ensures, roomy-least _ _ c.requires.room, frac_within _ _ c.args.format.one_of_four c.args.format.within)

@@ -10,7 +10,7 @@ pub returns-then-digits-binary : goal.returns-then-digits-binary
 returns-then-digits-binary c =
     let a = c.args in
     let up = a.binary.precision - a.digits in
-    shl_exact a.digits up 64 c.requires.high (omega (arith, a.binary.room.small.most, c.requires.most))
+    shl_exact a.digits up 64 c.requires.high (omega (arith, a.binary.small.most, c.requires.most))
     ∙ sym (scaled-few _ _ _ c.if-digits-binary.true)
 
 pub returns : goal.returns

@@ -13,7 +13,7 @@ overflow_add-format c =
     let b = c.args.self in
     let frac = frac_within _ _ c.args.format.one_of_four c.args.format.within in
     let below = mod-lt (c.args.pattern / 2 ^ (b.precision - 1)) (pow_pos b.field) in
-    let most = pow_mono {i = b.field} {j = 11} b.room.small.field-most in
+    let most = pow_mono {i = b.field} {j = 11} b.small.field-most in
     record { fits = omega (arith, frac, c.biased-e.ensures, below, most, c.saturating_sub-place.ensures) }
 
 pub returns : goal.returns
