@@ -10,6 +10,7 @@ ghost use Rattle.to_float.specs.Promise.{ToF32, ToF64};
 
 mod encode;
 
+use encode::Encoder;
 use float::pattern::Binary;
 use format::{Answer, Answered, Format, Raw};
 
@@ -31,10 +32,11 @@ fn to<R: Raw>(binary: Binary, raw: R, width: u32, frac: u32) -> Answered<u64>
     ensures { result ≡ answered unsigned_kind (to_float_of (binary_of binary) width frac (R.kind.number_of raw)) }
 {
     let format = Format::new(width, frac)?;
+    let encoder = Encoder { binary, format };
     let size = raw.magnitude();
     let neg = raw.is_below();
     Ok(Answer {
-        raw: encode::encode(binary, neg, size, format),
+        raw: encoder.encode(neg, size),
         flag: false,
     })
 }
