@@ -15,6 +15,7 @@ use fold::body::Digits;
 use std::cmp::Ordering;
 
 // The raw of a text that the scan accepted, whose digits stand in `body`: n of them, `after` of them after the point.
+// n is a number of its own: `body` has gaps too, and the readers hand over what the scanner counted.
 pub fn bits(
     body: &[u8],
     n: usize,

@@ -42,6 +42,7 @@ impl From<Answered<i64>> for CSigned {
     }
 }
 
+// C has a struct for each sign, so there is a conversion for each.
 impl From<Answered<u64>> for CUnsigned {
     ghost from_gives = { λ a r. r ≡ unsigned_of a };
 

@@ -1,4 +1,5 @@
 // tq_add_S to tq_shr_S: arithmetic on raws, in the manner that its number stands for.
+// C has a name for each sign, and what is exported no type parameter: each is the one function at its sign.
 ghost use Rattle.format.specs.Meaning.{signed_kind, unsigned_kind};
 ghost use Rattle.arith.specs.Promise.{Add, Sub, Mul, Div, Rem, Neg};
 ghost use Rattle.shift.specs.Promise.{Shl, Shr};

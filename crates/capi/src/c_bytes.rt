@@ -1,4 +1,5 @@
 // tq_swap_bytes_S, tq_to_be_bytes_S and the others: the bytes of a raw, in either order.
+// C has a name for each sign, and what is exported no type parameter: each is the one function at its sign.
 ghost use Rattle.format.specs.Meaning.{signed_kind, unsigned_kind};
 ghost use Rattle.std.specs.Prelude.{pos};
 ghost use Rattle.byte_order.specs.Meaning.{big_of, little_of};

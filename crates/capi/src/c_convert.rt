@@ -1,4 +1,5 @@
 // tq_convert_*: a raw of one format as a raw of another.
+// C has a name for each sign, and what is exported no type parameter: each is the one function at its sign.
 ghost use Rattle.format.specs.Meaning.{signed_kind, unsigned_kind};
 ghost use Rattle.convert.specs.Promise.{Convert};
 ghost use Rattle.capi.specs.Meaning.{manner_of};

@@ -6,6 +6,7 @@ ghost use Rattle.capi.specs.Promise.{Unsigned};
 
 use crate::answer::CUnsigned;
 
+// Slices apart: C lends them so.
 #[unsafe(no_mangle)]
 pub extern "C" fn tq_filter(
     taps: &[i16],

@@ -6,6 +6,7 @@ ghost use Rattle.capi.specs.Promise.{File};
 
 use fitting::{FileAnswer, FileRefusal};
 
+// A refused line's number in the table: C has numbers, where the code has `FileRefusal::Line`.
 const REFUSED_LINE: u32 = 42;
 
 // tq_file
@@ -53,6 +54,7 @@ fn refused(refusal: FileRefusal) -> CFile
     }
 }
 
+// Slices apart: C lends them so.
 #[unsafe(no_mangle)]
 pub extern "C" fn tq_fitting(
     file: &[u8],

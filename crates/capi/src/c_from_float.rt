@@ -1,4 +1,5 @@
 // tq_from_f32_S and tq_from_f64_S: patterns into a format, in the manner that its number stands for.
+// C has a name for each sign, and what is exported no type parameter: each is the one function at its sign.
 ghost use Rattle.format.specs.Meaning.{signed_kind, unsigned_kind};
 ghost use Rattle.from_float.specs.Promise.{F32, F64};
 ghost use Rattle.capi.specs.Meaning.{manner_of};

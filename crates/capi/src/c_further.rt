@@ -1,4 +1,5 @@
 // tq_abs_S to tq_mean_S: more arithmetic on raws, in the manner that its number stands for.
+// C has a name for each sign, and what is exported no type parameter: each is the one function at its sign.
 ghost use Rattle.format.specs.Meaning.{signed_kind, unsigned_kind};
 ghost use Rattle.further.specs.Promise.{Abs, Signum, RemEuclid, DivEuclid, MulAdd, Dist, Mean};
 ghost use Rattle.capi.specs.Meaning.{manner_of};

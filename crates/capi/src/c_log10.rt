@@ -1,4 +1,5 @@
 // tq_log10_signed, tq_log10_unsigned: the greatest k with 10^k at most the value.
+// C has a name for each sign, and what is exported no type parameter: each is the one function at its sign.
 ghost use Rattle.format.specs.Meaning.{signed_kind, unsigned_kind};
 ghost use Rattle.log10.specs.Promise.{Log10};
 ghost use Rattle.capi.specs.Promise.{Signed};

@@ -1,4 +1,5 @@
 // tq_read_signed, tq_read_unsigned, tq_literal_signed, tq_literal_unsigned: a text to the nearest number of a format.
+// C has a name for each sign, and what is exported no type parameter: each is the one function at its sign.
 ghost use Rattle.format.specs.Meaning.{signed_kind, unsigned_kind};
 ghost use Rattle.text.specs.Promise.{Read, Literal};
 ghost use Rattle.capi.specs.Meaning.{manner_of};

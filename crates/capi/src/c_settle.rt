@@ -1,5 +1,6 @@
 // tq_settle_signed, tq_settle_unsigned: an exact number, as a sign and two words, into a format.
 // neg is 0 for a number that is not negative.
+// C has a name for each sign, and what is exported no type parameter: each is the one function at its sign.
 ghost use Rattle.format.specs.Meaning.{signed_kind, unsigned_kind};
 ghost use Rattle.format.specs.Promise.{Settle};
 ghost use Rattle.capi.specs.Meaning.{manner_of, some_of};

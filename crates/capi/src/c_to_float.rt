@@ -1,4 +1,5 @@
 // tq_to_f32_S, tq_to_f64_S: the pattern of a raw's number.
+// C has a name for each sign, and what is exported no type parameter: each is the one function at its sign.
 ghost use Rattle.format.specs.Meaning.{signed_kind, unsigned_kind};
 ghost use Rattle.to_float.specs.Promise.{ToF32, ToF64};
 ghost use Rattle.capi.specs.Promise.{Unsigned};

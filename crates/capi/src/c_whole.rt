@@ -1,4 +1,5 @@
 // tq_floor_S to tq_frac_S: whole numbers of a format, in the manner that its number stands for.
+// C has a name for each sign, and what is exported no type parameter: each is the one function at its sign.
 ghost use Rattle.format.specs.Meaning.{signed_kind, unsigned_kind};
 ghost use Rattle.whole.specs.Promise.{Floor, Ceil, Round, Even, Int, Frac};
 ghost use Rattle.capi.specs.Meaning.{manner_of};

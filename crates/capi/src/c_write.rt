@@ -1,4 +1,5 @@
 // tq_write_signed, tq_write_unsigned: the exact decimal text of a raw, into a lent buffer.
+// C has a name for each sign, and what is exported no type parameter: each is the one function at its sign.
 ghost use Rattle.format.specs.Meaning.{signed_kind, unsigned_kind};
 ghost use Rattle.decimal.specs.Promise.{Write};
 ghost use Rattle.capi.specs.Promise.{Unsigned};

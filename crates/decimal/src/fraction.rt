@@ -41,6 +41,7 @@ fn digits(text: &mut Layout, fraction: u64, frac: u32)
     }
     text.append(b'.');
     let mut rest = fraction;
+    // no index is counted: it runs on what is left
     while rest != 0 {
         let next = wide::mul(rest, 100);
         text.append(crate::byte(next.high / 10));

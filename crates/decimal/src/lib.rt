@@ -47,7 +47,7 @@ fn laid_out<'a, R: Raw>(places: &'a mut [u8; PLACES], raw: R, format: Format) ->
     text
 }
 
-// A digit as a byte.
+// A digit as a byte: `char::from_digit` would be an Option of a char, to be opened and narrowed.
 fn byte(digit: u64) -> u8
     requires { digit < 10 }
     ensures { result ≡ byte_of digit }

@@ -28,6 +28,7 @@ fn digits(text: &mut Layout, n: u64)
     ensures text { laid text.new ≡ whole_text n ++ laid text.old }
 {
     let mut rest = n;
+    // no index is counted: it runs on what is left
     while 10 <= rest {
         text.prepend(crate::byte(rest % 10));
         rest /= 10;

@@ -79,7 +79,8 @@ pub fn new_int_frac(
     }
 }
 
-// How many digits there are. Whoever calls it shows that the count fits.
+// How many digits there are. Whoever calls it shows that the count fits. The text stands beside the record, as in S, so
+// that the record is one of this text is no fact of its type.
 pub fn len(text: &[u8], d: DigitsExp) -> usize
     requires { IsExp text.now d × (length (digits_exp_of text.now d) < 2 ^ 64) }
     ensures { LenExp text.now d result }

@@ -14,7 +14,7 @@ use wide::Wide;
 
 pub mod operand;
 
-// An operand: its sign, and its magnitude.
+// An operand: its sign, and its magnitude. The flag is a sign, so this is no Option.
 #[derive(Clone, Copy)]
 pub struct Number {
     pub neg: bool,

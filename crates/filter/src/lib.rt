@@ -23,7 +23,8 @@ pub struct State {
     pub samples: [i16; TAPS],
 }
 
-// One step: the output with its clip flag, or the refusal; and the state after it.
+// One step: the output with its clip flag, or the refusal; and the state after it, which a refusal has too, so that no
+// Result holds it.
 #[derive(Clone, Copy)]
 pub struct Stepped {
     pub answer: Answered<i64>,
@@ -64,7 +65,7 @@ pub fn step(taps: &[i16], state: State, x: i16) -> Stepped
 }
 
 // A block of samples through the filter: an output and a clip byte, 0 or 1, for each.
-// The value is the number of outputs that clipped.
+// The value is the number of outputs that clipped. The lists stand apart, as C lends them.
 pub fn run(
     taps: &[i16],
     state: &mut [i16; TAPS],

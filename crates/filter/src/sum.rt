@@ -53,7 +53,7 @@ pub fn level(taps: &[i16], line: &[i16]) -> i64
     round(dot(taps, line))
 }
 
-// A number held to the range of a sample.
+// A number held to the range of a sample, and whether that changed it, which `clamp` does not tell.
 fn hold(y: i64) -> Held
     ensures { result ≡ held_of y }
 {

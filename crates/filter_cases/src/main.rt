@@ -49,7 +49,7 @@ fn two(rt: &impl Print, first: i16, second: i16) -> io::Result<()> {
     rt.println("")
 }
 
-// How many of the outputs clip.
+// How many of the outputs clip. The lists stand apart, as `filter::run` takes them.
 fn clips(
     rt: &impl Print,
     taps: &[i16],

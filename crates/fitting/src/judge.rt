@@ -5,7 +5,7 @@ ghost use Rattle.fitting.specs.Judge.{judged_of};
 
 use crate::{FileAnswer, FileRefusal};
 
-// The first of the values that was refused.
+// The first of the values that was refused. They are the first places of the slices that C lends, which may be longer.
 pub fn judge(lines: &[u32], answers: &[u32], values: u32) -> FileAnswer
     requires lines_room { values ≤ length lines.now }
     requires answers_room { values ≤ length answers.now }
@@ -25,7 +25,7 @@ pub fn judge(lines: &[u32], answers: &[u32], values: u32) -> FileAnswer
     }
 }
 
-// The raws into the first taps.
+// The raws into the first taps; both slices may be longer, as above.
 pub fn keep(raws: &[i16], taps: &mut [i16], values: u32)
     requires raws_room { values ≤ length raws.now }
     requires taps_room { values ≤ length taps.old }

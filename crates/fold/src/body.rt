@@ -29,6 +29,7 @@ impl<'a> Iterator for Digits<'a> {
     ghost remaining = { item_count digits_left };
 
     fn next(&mut self) -> Option<u64> {
+        // no index is counted: the slice that is left is what `digits_left` reads
         while let Some((byte, rest)) = self.rest.split_first() {
             self.rest = rest;
             if !is_gap(*byte) {

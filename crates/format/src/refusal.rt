@@ -27,7 +27,7 @@ pub enum Refusal {
 }
 
 impl Refusal {
-    // Its number in the table.
+    // Its number in the table, which C is handed.
     pub fn number(self) -> u32
         ensures { result ≡ number self }
     {

@@ -42,7 +42,8 @@ fn one(rt: &(impl Files + Print), name: &str) -> io::Result<()> {
     show(rt, read(&buf[..n], [mark; PLACES], [-777; PLACES]))
 }
 
-// Reads until the buffer is full or the file ends; how many bytes came.
+// Reads until the buffer is full or the file ends; how many bytes came. What reads to the end in std fills a Vec, and
+// nothing here is on the heap.
 fn fill(file: &mut impl Read, buf: &mut [u8]) -> io::Result<usize>
     ensures { IfOk result (λ n. n ≤ length buf.new) }
 {

@@ -16,7 +16,7 @@ const NUMBERS: usize = 8;
 // The greatest number whose tenfold is a word.
 const TENTH: u64 = 1844674407370955161;
 
-// A number by its magnitude.
+// A number by its magnitude, as the raws of both signs are compared. The flag is a sign, so this is no Option.
 #[derive(Clone, Copy)]
 pub(crate) struct Number {
     pub below: bool,

@@ -16,7 +16,7 @@ pub(crate) fn value(rt: &impl Print, raw: i64, width: u32, frac: u32) -> io::Res
     }
 }
 
-// The first n bytes.
+// The first n bytes: those that `decimal::write` wrote.
 fn start(rt: &impl Print, bytes: &[u8], n: usize) -> io::Result<()> {
     if n <= bytes.len() {
         return rt.write_all(&bytes[..n]);

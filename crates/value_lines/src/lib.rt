@@ -49,7 +49,7 @@ fn enter(
     n
 }
 
-// The value lines of the file, in order.
+// The value lines of the file, in order, into the three slices that C lends.
 pub fn store(file: &[u8], lines: &mut [u32], raws: &mut [i16], answers: &mut [u32])
     requires short_file { length file.now ≤ file_limit }
     requires lines_room { length (values_of file.now) ≤ length lines.old }
