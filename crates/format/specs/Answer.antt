@@ -2,7 +2,7 @@
 use Rattle.std.specs.Option.{ok_or}
 use Rattle.std.specs.Result.{IsErrAnd}
 use Rattle.std.proofs.lemmas.Result.{err_from_is_err_and}
-use Rattle.std.specs.Prelude.{◌≡◌, refl, true, false, not, is_some, is_none, Option, Some, None, Ok, Err, Bool, ℕ, ℤ}
+use Rattle.std.specs.Prelude.{◌≡◌, refl, true, false, not, is_some, is_none, Option, Some, None, Ok, Err, Bool, List, [], ◌∷◌, map, ℕ, ℤ}
 use Rattle.std.proofs.Common.{sym, ◌∙◌}
 use Rattle.std.proofs.Math.Path.{ap}
 use Rattle.format.specs.declared.refusal.Refusal.{Refusal}
@@ -71,3 +71,13 @@ named-number ZeroDivisor = refl
 named-number NotPositive = refl
 named-number WrongTaps = refl
 named-number TooManyValues = refl
+
+-- the numbers of the table that stand for a refusal
+abbrev pub table : List ℕ
+table =
+    1 ∷ 2 ∷ 3 ∷ 4 ∷ 5 ∷ 10 ∷ 11 ∷ 12 ∷ 13 ∷ 14 ∷ 15 ∷ 16 ∷ 17 ∷ 18 ∷ 19 ∷ 30 ∷ 31 ∷ 32 ∷ 40 ∷ 41 ∷ []
+
+-- each of them is found again by its refusal, so no two share one
+pub number-named : map (λ n. number (named n)) table ≡ table
+unfolding number named
+number-named = refl
