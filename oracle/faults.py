@@ -32,12 +32,12 @@ NOTICED = {
     "reciprocal": word(RECIPROCAL, 1),
     "reciprocal_less": word(RECIPROCAL, -(2**30)),
     "power_of_ten": word(5**18, 1),  # its fives
-    # cmp $imm32,%rsi: the longest text
-    "limit": [(b"\x48\x81\xfe" + (4096).to_bytes(4, "little"), b"\x48\x81\xfe" + (4095).to_bytes(4, "little"))],
-    # cmp $imm8,%r10b and %r15b: an underscore
-    "underscore": [(b"\x41\x80\xfa\x5f", b"\x41\x80\xfa\x60"), (b"\x41\x80\xff\x5f", b"\x41\x80\xff\x60")],
-    # cmp $imm8,%r14b and %r15b: the digit 9
-    "nine": [(b"\x41\x80\xfe\x39", b"\x41\x80\xfe\x38"), (b"\x41\x80\xff\x39", b"\x41\x80\xff\x38")],
+    # cmp $imm32,%rsi: the first length that is too long
+    "limit": [(b"\x48\x81\xfe" + (4097).to_bytes(4, "little"), b"\x48\x81\xfe" + (4096).to_bytes(4, "little"))],
+    # cmp $imm8,%r11b: an underscore
+    "underscore": [(b"\x41\x80\xfb\x5f", b"\x41\x80\xfb\x60")],
+    # cmp $imm8,%r14b: the digit 9
+    "nine": [(b"\x41\x80\xfe\x39", b"\x41\x80\xfe\x38")],
 }
 
 # changes that change no answer; oracle/README.md says why
@@ -57,16 +57,16 @@ BESIDE = {
     "zero_divisor": ("arith", [(b"\xb8\x1f\x00\x00\x00", b"\xb8\x1e\x00\x00\x00")]),
     # the reciprocal of 10 times 2^67
     "tenth": ("decimal", word(0xCCCCCCCCCCCCCCCD, 1)),
-    # movswq %ax,%rcx: what of a level is no sample, and clips; without the sign every sample below 0 does
-    "clip": ("filter", [(b"\x48\x0f\xbf\xc8\x48\x3d", b"\x48\x0f\xb7\xc8\x48\x3d")]),
-    # cmp $0x7fff,%rdx: the highest sample, to which the one below it is held too
-    "highest": ("filter", [(b"\x48\x81\xfa\xff\x7f\x00\x00", b"\x48\x81\xfa\xfe\x7f\x00\x00")]),
-    # bt $15,%eax: whether the whole part is odd; adc $16383,%rax, %r9 and %r11: half a step less one, in the filter and in the headroom check
-    "even": ("filter", [(b"\x0f\xba\xe0\x0f", b"\x0f\xba\xe0\x10")]),
-    "half": ("filter", [(b"\x48\x15\xff\x3f\x00\x00", b"\x48\x15\xfe\x3f\x00\x00")]),
-    "half_of_peaks": ("filter", [(b"\x49\x81\xd1\xff\x3f\x00\x00", b"\x49\x81\xd1\xfe\x3f\x00\x00"), (b"\x49\x81\xd3\xff\x3f\x00\x00", b"\x49\x81\xd3\xfe\x3f\x00\x00")]),
-    # mov $63,%r12d: the place before the line, once it is taken back to the window's end
-    "gap": ("filter", [(b"\x41\xbc\x3f\x00\x00\x00", b"\x41\xbc\x3e\x00\x00\x00")]),
+    # setne beside sete, of a clip byte in its place
+    "clip": ("filter", [(b"\x42\x0f\x95\x04\x29", b"\x42\x0f\x94\x04\x29")]),
+    # cmp $0x7fff,%rax: the highest sample, to which the one below it is held too
+    "highest": ("filter", [(b"\x48\x3d\xff\x7f\x00\x00", b"\x48\x3d\xfe\x7f\x00\x00")]),
+    # bt $15,%edi: whether the whole part is odd; adc $16383,%rdi, and %r8 and %r11: half a step less one, in the filter and in the headroom check
+    "even": ("filter", [(b"\x0f\xba\xe7\x0f", b"\x0f\xba\xe7\x10")]),
+    "half": ("filter", [(b"\x48\x81\xd7\xff\x3f\x00\x00", b"\x48\x81\xd7\xfe\x3f\x00\x00")]),
+    "half_of_peaks": ("filter", [(b"\x49\x81\xd0\xff\x3f\x00\x00", b"\x49\x81\xd0\xfe\x3f\x00\x00"), (b"\x49\x81\xd3\xff\x3f\x00\x00", b"\x49\x81\xd3\xfe\x3f\x00\x00")]),
+    # mov $63,%ebp: the place before the line, once it is taken back to the window's end
+    "gap": ("filter", [(b"\xbd\x3f\x00\x00\x00", b"\xbd\x3e\x00\x00\x00")]),
 }
 ALL = NOTICED | EQUAL | {name: changes for name, (_, changes) in BESIDE.items()}
 
