@@ -1,5 +1,5 @@
--- The promises of the public functions, each an equation over the kind of raw, and that each settles its answer. An unsigned
--- operand is a number that is not negative. Assumes nothing.
+-- The promises of the public functions, each an equation over the kind of raw, and that each settles its answer. An
+-- unsigned operand is a number that is not negative. Assumes nothing.
 use Rattle.std.specs.Prelude.{◌≡◌, Result, Ok, Err, ℕ, ℤ}
 use Rattle.std.specs.Result.{IfOk, IfErr}
 use Rattle.format.specs.declared.Manner.{Manner}
@@ -53,7 +53,8 @@ abbrev pub Dividing : ℕ → ℕ → ℤ → Result (ℕ × ℕ) Refusal → Ty
 Dividing w f b r = IfOk r (λ x. Divides w f b x.0 x.1) × IfErr r (Refuses (division_fault w f b))
 
 pub divided-unique : (w f : ℕ) (b : ℤ) (r s : Result (ℕ × ℕ) Refusal) → Dividing w f b r → Dividing w f b s → r ≡ s
-divided-unique w f b (Ok x) (Ok y) p q = new-unique (division_fault w f b) w f (Ok x) (Ok y) (p.0.opens, p.1) (q.0.opens, q.1)
+divided-unique w f b (Ok x) (Ok y) p q =
+    new-unique (division_fault w f b) w f (Ok x) (Ok y) (p.0.opens, p.1) (q.0.opens, q.1)
 divided-unique w f b (Ok x) (Err e) p q = absurd (q.1.fault p.0.opens.free)
 divided-unique w f b (Err e) (Ok y) p q = absurd (p.1.fault q.0.opens.free)
 divided-unique w f b (Err d) (Err e) p q = new-unique (division_fault w f b) w f (Err d) (Err e) (tt, p.1) (tt, q.1)

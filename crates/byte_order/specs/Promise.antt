@@ -1,5 +1,5 @@
--- The promises of the public functions, each an equation over the kind of raw, and that each settles its answer. An unsigned
--- operand is a number that is not negative. Assumes nothing.
+-- The promises of the public functions, each an equation over the kind of raw, and that each settles its answer. An
+-- unsigned operand is a number that is not negative. Assumes nothing.
 use Rattle.std.specs.Prelude.{◌≡◌, List, ℕ, length}
 use Rattle.format.specs.Meaning.{Kind, unsigned_kind, Answered, answered}
 use Rattle.laws.specs.Unique.{unique}

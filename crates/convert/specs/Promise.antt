@@ -1,5 +1,5 @@
--- The promise of the public function, an equation over the kind of raw on either side, and that it settles its answer. An unsigned raw
--- is a number that is not negative. Assumes nothing.
+-- The promise of the public function, an equation over the kind of raw on either side, and that it settles its answer.
+-- An unsigned raw is a number that is not negative. Assumes nothing.
 use Rattle.std.specs.Prelude.{◌≡◌, ℕ}
 use Rattle.format.specs.declared.Manner.{Manner}
 use Rattle.format.specs.Meaning.{Kind, Answered, answered}
@@ -10,5 +10,6 @@ module _ {A B : Type 0} (c : Kind A) (d : Kind B) where
   abbrev pub Convert : A → ℕ → ℕ → ℕ → ℕ → Manner → Answered B → Type 0
   Convert a fw ff w f k r = r ≡ answered d (convert_of k d.sign fw ff w f (c.number_of a))
 
-  pub convert-unique : (a : A) (fw ff w f : ℕ) (k : Manner) (r s : Answered B) → Convert a fw ff w f k r → Convert a fw ff w f k s → r ≡ s
+  pub convert-unique : (a : A) (fw ff w f : ℕ) (k : Manner) (r s : Answered B) → Convert a fw ff w f k r
+      → Convert a fw ff w f k s → r ≡ s
   convert-unique a fw ff w f k r s p q = unique p q

@@ -1,6 +1,7 @@
 -- What a digit view is: document 01, module 1. A run is the list of the bytes between two places of the text.
 -- (The second layer is the crate `digits_exp`.) Assumes nothing.
-use Rattle.std.specs.Prelude.{◌≡◌, Bool, false, cond, List, [], ◌∷◌, ◌++◌, reverse, ℕ, ◌+◌, ◌-◌, length, take, drop, eqb, Option, Some, None}
+use Rattle.std.specs.Prelude.{◌≡◌, Bool, false, cond, List, [], ◌∷◌, ◌++◌, reverse, ℕ, ◌+◌, ◌-◌, length, take, drop}
+use Rattle.std.specs.Prelude.{eqb, Option, Some, None}
 use Rattle.std.specs.Borrow.{Bor}
 
 -- `_`

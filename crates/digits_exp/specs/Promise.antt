@@ -48,6 +48,7 @@ pub record SplitFirst (text : List ℕ) (x : DigitsExp) (r : Option (ℕ × Digi
   pub same : first_digits text r ≡ digits_exp_of text x
   pub is : RestIs text r
 
-pub split-first-unique : (text : List ℕ) (x : DigitsExp) {r s : Option (ℕ × DigitsExp)} → SplitFirst text x r → SplitFirst text x s
+pub split-first-unique : (text : List ℕ) (x : DigitsExp) {r s : Option (ℕ × DigitsExp)} → SplitFirst text x r
+    → SplitFirst text x s
     → first_digits text r ≡ first_digits text s
 split-first-unique text x p q = unique p.same q.same

@@ -1,6 +1,7 @@
 -- The filter over lists of integers: document 01, module 7. A history is a list of samples, newest first.
 -- Assumes nothing.
-use Rattle.std.specs.Prelude.{Ok, Err, Bool, true, false, cond, not, List, [], ◌∷◌, map, ℕ, ◌+◌, ◌^◌, leb, eqb, ℤ, pos, nat_abs, ◌+ℤ◌, ◌*ℤ◌, length, take, replicate}
+use Rattle.std.specs.Prelude.{Ok, Err, Bool, true, false, cond, not, List, [], ◌∷◌, map, ℕ, ◌+◌, ◌^◌, leb, eqb, ℤ, pos}
+use Rattle.std.specs.Prelude.{nat_abs, ◌+ℤ◌, ◌*ℤ◌, length, take, replicate}
 use Rattle.std.specs.Int.Signed.{lt_z}
 use Rattle.laws.specs.Nearest.{nearest_even}
 use Rattle.format.specs.Meaning.{signed, fits, hold, Answered, named, guarded, with_sign}

@@ -38,6 +38,7 @@ module _ (taps : List ℤ) (state : State) (samples outputs : List ℤ) (marks :
         (ap (λ (r : Ran). r.state) e, (ap (λ (r : Ran). r.outputs) e, ap (λ (r : Ran). r.marks) e)),
       )
 
--- ---- inside, for `headroom` too: `Taps::raws` is the list of the taps, and what it says besides of their number leaves no other
+-- ---- inside, for `headroom` too: `Taps::raws` is the list of the taps, and what it says besides of their number
+-- leaves no other
 pub raws-unique : (taps r s : List ℤ) → r ≡ taps → s ≡ taps → r ≡ s
 raws-unique taps r s p q = p ∙ sym q

@@ -1,6 +1,7 @@
 -- What a format is, which raws it has, and what becomes of an exact number in each manner:
 -- document 01, "Domain and numbers". Assumes nothing.
-use Rattle.std.specs.Prelude.{◌≡◌, ◌≢◌, Result, Ok, Err, Bool, ◌||◌, true, false, cond, not, ◌&&◌, ℕ, ◌-◌, ◌*◌, ◌+◌, ◌^◌, leb, eqb, ℤ, pos, neg_ℤ, ◌-ℤ◌, ◌*ℤ◌}
+use Rattle.std.specs.Prelude.{◌≡◌, ◌≢◌, Result, Ok, Err, Bool, ◌||◌, true, false, cond, not, ◌&&◌, ℕ, ◌-◌, ◌*◌, ◌+◌}
+use Rattle.std.specs.Prelude.{◌^◌, leb, eqb, ℤ, pos, neg_ℤ, ◌-ℤ◌, ◌*ℤ◌}
 use Rattle.std.specs.Int.Signed.{le_z, lt_z}
 use Rattle.laws.specs.Diff.{up}
 use Rattle.laws.specs.Floor.{floor}
@@ -8,7 +9,11 @@ use Rattle.format.specs.declared.Manner.{Manner}
 use Rattle.format.specs.declared.Manner.TheVariants.{Strict, Saturating, Wrapping, Overflowing}
 use Rattle.format.specs.declared.Answer.{Answer}
 use Rattle.format.specs.declared.refusal.Refusal.{Refusal}
-use Rattle.format.specs.declared.refusal.Refusal.TheVariants.{WrongWidth, WrongFrac, WrongRadix, TooLong, WrongLength, Overflow, NoDigits, MisplacedSign, InvalidDigit, MisplacedUnderscore, TooManyPoints, ExpInvalidDigit, ExpNoDigits, TooManyExp, ExpOverflow, NotANumber, ZeroDivisor, NotPositive, WrongTaps, TooManyValues}
+use Rattle.format.specs.declared.refusal.Refusal.TheVariants.{WrongWidth, WrongFrac, WrongRadix, TooLong, WrongLength}
+use Rattle.format.specs.declared.refusal.Refusal.TheVariants.{Overflow, NoDigits, MisplacedSign, InvalidDigit}
+use Rattle.format.specs.declared.refusal.Refusal.TheVariants.{MisplacedUnderscore, TooManyPoints, ExpInvalidDigit}
+use Rattle.format.specs.declared.refusal.Refusal.TheVariants.{ExpNoDigits, TooManyExp, ExpOverflow, NotANumber}
+use Rattle.format.specs.declared.refusal.Refusal.TheVariants.{ZeroDivisor, NotPositive, WrongTaps, TooManyValues}
 
 -- "A format is a width W (8, 16, 32 or 64), signed or unsigned, and F fraction bits, 0 to W."
 pub data Sign : Type 0 where
@@ -123,7 +128,8 @@ named n =
     (cond (eqb n 40) WrongTaps
     TooManyValues))))))))))))))))))
 
--- What the code calls a raw, an i64 in a signed format and a u64 in an unsigned one: the number that a raw stands for, and the raw of a number.
+-- What the code calls a raw, an i64 in a signed format and a u64 in an unsigned one: the number that a raw stands for,
+-- and the raw of a number.
 pub record Kind (A : Type 0) : Type 0 where
   pub sign : Sign
   pub number_of : A → ℤ
@@ -147,7 +153,8 @@ answered k (refused n) = Err (named n)
 unfoldable pub checked : {A : Type 0} → ℕ → A → Result A Refusal
 checked n a = guarded n (λ m. Err (named m)) (Ok a)
 
--- What a check leaves to those who go on: n is the number of the first refusal, 0 for none: there is none, and this is the format
+-- What a check leaves to those who go on: n is the number of the first refusal, 0 for none: there is none, and this is
+-- the format
 pub record LetsThrough (n w f : ℕ) (width frac : ℕ) : Type 0 where
   pub free : n ≡ 0
   pub width_is : width ≡ w

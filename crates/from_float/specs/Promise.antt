@@ -1,4 +1,5 @@
--- The promises of the public functions, each an equation over the kind of raw, and that each settles its answer. Assumes nothing.
+-- The promises of the public functions, each an equation over the kind of raw, and that each settles its answer.
+-- Assumes nothing.
 use Rattle.std.specs.Prelude.{◌≡◌, ℕ}
 use Rattle.format.specs.declared.Manner.{Manner}
 use Rattle.format.specs.Meaning.{Kind, Answered, answered}

@@ -1,5 +1,5 @@
--- What the public function promises, over the kind of raw, and that the promise leaves one answer only. An unsigned raw is a number
--- that is not negative; the answer is signed for both kinds. Assumes nothing.
+-- What the public function promises, over the kind of raw, and that the promise leaves one answer only. An unsigned raw
+-- is a number that is not negative; the answer is signed for both kinds. Assumes nothing.
 use Rattle.std.specs.Prelude.{◌≡◌, ℕ, ℤ}
 use Rattle.format.specs.Meaning.{Kind, signed_kind, Answered, answered}
 use Rattle.laws.specs.Unique.{unique}

@@ -1,5 +1,5 @@
--- The promises of the public functions, each an equation over the kind of raw, and that each settles its answer: a pattern, which is
--- never negative. Assumes nothing.
+-- The promises of the public functions, each an equation over the kind of raw, and that each settles its answer: a
+-- pattern, which is never negative. Assumes nothing.
 use Rattle.std.specs.Prelude.{◌≡◌, ℕ}
 use Rattle.format.specs.Meaning.{Kind, Answered, answered, unsigned_kind}
 use Rattle.laws.specs.Unique.{unique}
