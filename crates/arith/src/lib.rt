@@ -29,7 +29,7 @@ pub fn neg<R: Raw>(a: R, width: u32, frac: u32, manner: Manner) -> Answered<R>
     ensures { Neg R.kind a width frac manner result }
 {
     let minus = exact::negated(exact::of(a));
-    format::settle(exact::of_number(minus), width, frac, manner)
+    format::settle(minus.into(), width, frac, manner)
 }
 
 // a * b / 2^frac, rounded toward minus infinity

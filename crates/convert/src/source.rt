@@ -32,5 +32,5 @@ pub(crate) fn steps<S: Source>(raw: S, from_frac: u32, format: Format) -> Exact
     if from_frac <= format.frac {
         return exact::shifted_left(exact::of(raw), format.frac - from_frac);
     }
-    exact::of_number(exact::of(raw.dropped(from_frac - format.frac)))
+    exact::of(raw.dropped(from_frac - format.frac)).into()
 }

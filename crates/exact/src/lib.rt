@@ -4,7 +4,7 @@
 ghost use Rattle.std.specs.Prelude.{◌≡◌, true, ◌+◌, ◌*◌, ◌^◌, ◌≤◌, ◌<◌, pos, neg_ℤ, ◌+ℤ◌, ◌*ℤ◌};
 ghost use Rattle.std.specs.Int.Signed.{quot_z, rem_z};
 ghost use Rattle.laws.specs.Floor.{floor as floor_of};
-ghost use Rattle.format.specs.Meaning.{exact};
+ghost use Rattle.format.specs.Meaning.{with_sign};
 ghost use Rattle.wide.specs.Meaning.{value_of};
 ghost use Rattle.exact.specs.Meaning.{number_of, exact_of};
 
@@ -41,13 +41,11 @@ pub fn negated(x: Number) -> Number
 }
 
 // One word as a result.
-pub fn of_number(x: Number) -> Exact
-    ensures { exact_of result ≡ number_of x }
-{
-    Exact {
-        neg: x.neg,
-        high: 0,
-        low: x.size,
+impl From<Number> for Exact {
+    ghost from_gives = { λ x r. exact_of r ≡ number_of x };
+
+    fn from(x: Number) -> Exact {
+        Exact::new(x.neg, x.size.into())
     }
 }
 
@@ -56,33 +54,11 @@ pub fn sum(x: Number, y: Number) -> Exact
     ensures { exact_of result ≡ number_of x +ℤ number_of y }
 {
     if x.neg == y.neg {
-        let s = wide::add(
-            Wide {
-                high: 0,
-                low: x.size,
-            },
-            Wide {
-                high: 0,
-                low: y.size,
-            },
-        );
-        return Exact {
-            neg: x.neg,
-            high: s.high,
-            low: s.low,
-        };
-    }
-    if x.size < y.size {
-        return Exact {
-            neg: y.neg,
-            high: 0,
-            low: y.size - x.size,
-        };
-    }
-    Exact {
-        neg: x.neg,
-        high: 0,
-        low: x.size - y.size,
+        Exact::new(x.neg, wide::add(x.size.into(), y.size.into()))
+    } else if x.size < y.size {
+        Exact::new(y.neg, (y.size - x.size).into())
+    } else {
+        Exact::new(x.neg, (x.size - y.size).into())
     }
 }
 
@@ -97,7 +73,7 @@ pub(crate) fn signed_sum(a: i64, b: i64) -> Exact
     let y = of(b);
     if x.size < ADDS_UP {
         if y.size < ADDS_UP {
-            return of_number(of(a + b));
+            return of(a + b).into();
         }
     }
     sum(x, y)
@@ -111,7 +87,7 @@ pub(crate) fn signed_difference(a: i64, b: i64) -> Exact
     let y = of(b);
     if x.size < ADDS_UP {
         if y.size < ADDS_UP {
-            return of_number(of(a - b));
+            return of(a - b).into();
         }
     }
     sum(x, negated(y))
@@ -121,8 +97,7 @@ pub(crate) fn signed_difference(a: i64, b: i64) -> Exact
 pub fn product(x: Number, y: Number, frac: u32) -> Exact
     ensures { exact_of result ≡ floor_of (number_of x *ℤ number_of y) (2 ^ frac) }
 {
-    let p = wide::mul(x.size, y.size);
-    floor(x.neg != y.neg, p.high, p.low, frac)
+    floor(Exact::new(x.neg != y.neg, wide::mul(x.size, y.size)), frac)
 }
 
 // Magnitudes up to this, with any signs, have a signed word as their product.
@@ -138,46 +113,34 @@ pub(crate) fn signed_product(a: i64, b: i64, frac: u32) -> Exact
     if x.size <= MULTIPLIES {
         if y.size <= MULTIPLIES {
             if frac < 64 {
-                return of_number(of((a * b) >> frac));
+                return of((a * b) >> frac).into();
             }
         }
     }
     product(x, y, frac)
 }
 
-// The number of this sign and two words, divided by 2^k and rounded toward minus infinity.
-pub fn floor(neg: bool, high: u64, low: u64, k: u32) -> Exact
-    ensures { exact_of result ≡ floor_of (exact neg high low) (2 ^ k) }
+// x / 2^k, rounded toward minus infinity.
+pub fn floor(x: Exact, k: u32) -> Exact
+    ensures { exact_of result ≡ floor_of (exact_of x) (2 ^ k) }
 {
-    if neg {
-        return floor_below(high, low, k);
-    }
-    let q = wide::shr(Wide { high, low }, k);
-    Exact {
-        neg: false,
-        high: q.high,
-        low: q.low,
+    if x.neg {
+        floor_below(x.size(), k)
+    } else {
+        Exact::new(false, wide::shr(x.size(), k))
     }
 }
 
 // Below zero, down is away from zero: one more than what the magnitude less one holds of 2^k.
-fn floor_below(high: u64, low: u64, k: u32) -> Exact
-    ensures { exact_of result ≡ floor_of (exact true high low) (2 ^ k) }
+fn floor_below(size: Wide, k: u32) -> Exact
+    ensures { exact_of result ≡ floor_of (with_sign true (value_of size)) (2 ^ k) }
 {
-    let x = Wide { high, low };
-    let one = Wide { high: 0, low: 1 };
-    if wide::less(x, one) {
-        return Exact {
-            neg: false,
-            high: 0,
-            low: 0,
-        };
-    }
-    let q = wide::add(wide::shr(wide::sub(x, one), k), one);
-    Exact {
-        neg: true,
-        high: q.high,
-        low: q.low,
+    let one = Wide::from(1u64);
+    if wide::less(size, one) {
+        Exact::new(false, size)
+    } else {
+        let whole = wide::shr(wide::sub(size, one), k);
+        Exact::new(true, wide::add(whole, one))
     }
 }
 
@@ -186,7 +149,7 @@ pub fn scaled(size: u64, k: u32) -> Wide
     requires { k ≤ 64 }
     ensures { value_of result ≡ size * 2 ^ k }
 {
-    wide::shl(Wide { high: 0, low: size }, k)
+    wide::shl(size.into(), k)
 }
 
 // x * 2^k.
@@ -194,12 +157,7 @@ pub fn shifted_left(x: Number, k: u32) -> Exact
     requires { k ≤ 64 }
     ensures { exact_of result ≡ number_of x *ℤ pos (2 ^ k) }
 {
-    let s = scaled(x.size, k);
-    Exact {
-        neg: x.neg,
-        high: s.high,
-        low: s.low,
-    }
+    Exact::new(x.neg, scaled(x.size, k))
 }
 
 // x * 2^frac / y, rounded toward zero.
@@ -207,13 +165,8 @@ pub fn quotient(x: Number, y: Number, frac: u32) -> Exact
     requires { (0 < y.size) × (frac ≤ 64) }
     ensures { exact_of result ≡ quot_z (number_of x *ℤ pos (2 ^ frac)) (number_of y) }
 {
-    let q = wide::div(scaled(x.size, frac), y.size);
-    let whole = q.quotient;
-    Exact {
-        neg: x.neg != y.neg,
-        high: whole.high,
-        low: whole.low,
-    }
+    let division = wide::div(scaled(x.size, frac), y.size);
+    Exact::new(x.neg != y.neg, division.quotient)
 }
 
 // What the division of x by y leaves, with the sign of x.
@@ -221,9 +174,5 @@ pub fn remainder(x: Number, y: Number) -> Exact
     requires { 0 < y.size }
     ensures { exact_of result ≡ rem_z (number_of x) (number_of y) }
 {
-    Exact {
-        neg: x.neg,
-        high: 0,
-        low: x.size % y.size,
-    }
+    Exact::new(x.neg, (x.size % y.size).into())
 }

@@ -1,6 +1,6 @@
 -- A word times 2^up over 2^down, rounded, as the code finds it: the powers are cancelled, and past two words only whole 2^64 are left. Assumes nothing.
 use mathlib.Core.Path.{◌≡◌, sym, ap, ◌∙◌}
-use Prim.Native.Nat.{ℕ, ◌+◌, ◌-◌, ◌*◌, ◌/◌, ◌%◌, ◌^◌, ◌≤◌, ◌<◌}
+use Prim.Native.Nat.{ℕ, ◌-◌, ◌*◌, ◌/◌, ◌%◌, ◌^◌, ◌≤◌, ◌<◌}
 use native.Mathlib.Nat.{mod-lt, div-lt_iff_lt-mul, eq_of_mul-eq-mul_right, le_of_lt}
 use native.Mathlib.Omega.{arith}
 use lib.Bits.{bit_and}
@@ -24,18 +24,16 @@ pub nothing_left : (m k : ℕ) → m < 2 ^ 63 → 64 ≤ k → 0 ≡ nearest_eve
 nothing_left m k h l = sym (nearest-none m (2 ^ k) (omega (arith, pow_mono {i = 64} {j = k} l)))
 
 -- ---- two powers cancel
-pub less-up : (m up down : ℕ) {r : ℕ} → up < down → r ≡ nearest_even m (2 ^ (down - up))
-    → Folds (nearest_even (m * 2 ^ up) (2 ^ down)) (record { high = 0; low = r })
+pub less-up : (m up down : ℕ) {r : Wide} → up < down → value_of r ≡ nearest_even m (2 ^ (down - up)) → Folds (nearest_even (m * 2 ^ up) (2 ^ down)) r
 less-up m up down {r} h e =
-    let same : nearest_even (m * 2 ^ up) (2 ^ down) ≡ r =
+    let same : nearest_even (m * 2 ^ up) (2 ^ down) ≡ value_of r =
     ap (nearest_even (m * 2 ^ up)) (power-sub up down (le_of_lt h)) ∙ nearest-scale m (2 ^ (down - up)) (2 ^ up) (pow_pos (down - up)) (pow_pos up) ∙ sym e in
-    record { whole = 0; same = same ∙ omega arith; none = λ z. z; some = λ z. z }
+    record { whole = r.high; same = same; none = λ z. z; some = λ z. z }
 
-pub some_up : (m up down : ℕ) {r : Wide} → m < 2 ^ 64 → down ≤ up → up - down < 64 → value_of r ≡ (0 * 2 ^ 64 + m) * 2 ^ (up - down) % 2 ^ 128
+pub some_up : (m up down : ℕ) {r : Wide} → m < 2 ^ 64 → down ≤ up → up - down < 64 → value_of r ≡ m * 2 ^ (up - down) % 2 ^ 128
     → Folds (nearest_even (m * 2 ^ up) (2 ^ down)) r
 some_up m up down {r} w h l e =
-    let z : 0 * 2 ^ 64 + m ≡ m = omega arith in
-    let v : value_of r ≡ m * 2 ^ (up - down) = e ∙ ap (λ (n : ℕ). n * 2 ^ (up - down) % 2 ^ 128) z ∙ shl_exact {a = m} 64 (up - down) 128 w (omega arith) in
+    let v : value_of r ≡ m * 2 ^ (up - down) = e ∙ shl_exact {a = m} 64 (up - down) 128 w (omega arith) in
     record { whole = r.high; same = scaled-few up m down h ∙ sym v; none = λ z. z; some = λ z. z }
 
 pub far-up : (m up down : ℕ) → down ≤ up → 64 ≤ up - down → Folds (nearest_even (m * 2 ^ up) (2 ^ down)) (record { high = m; low = 0 })

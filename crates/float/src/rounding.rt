@@ -15,11 +15,11 @@ pub(crate) fn scaled(m: u64, up: u32, down: u32) -> Wide
         let k = down - up;
         // less than half is left from 2^64 on
         let low = if k < 64 { nearest(m, k) } else { 0 };
-        return Wide { high: 0, low };
+        return low.into();
     }
     let k = up - down;
     if k < 64 {
-        return wide::shl(Wide { high: 0, low: m }, k);
+        return wide::shl(m.into(), k);
     }
     Wide { high: m, low: 0 }
 }

@@ -3,7 +3,8 @@
 #![tactic(auto)]
 
 ghost use Rattle.std.specs.Prelude.{◌≡◌, ◌+◌, ◌*◌, ◌^◌, ◌<◌};
-ghost use Rattle.fold.specs.Fold.{fold_of, folded_value, bit};
+ghost use Rattle.wide.specs.Meaning.{value_of};
+ghost use Rattle.fold.specs.Fold.{fold_of, folded_value};
 ghost use Rattle.fold.specs.Round.{round_by};
 
 use std::cmp::Ordering;
@@ -30,20 +31,25 @@ impl From<u64> for Folded {
     }
 }
 
-impl Folded {
-    // The word above `low`: with it, a format settles the number.
-    pub fn high(self) -> u64
-        ensures { result ≡ bit self.over }
-    {
-        u64::from(self.over)
-    }
+// Two words that a format settles to the same: past one word there is a second.
+impl From<Folded> for Wide {
+    ghost from_gives = { λ x w. value_of w ≡ folded_value x };
 
+    fn from(x: Folded) -> Wide {
+        Wide {
+            high: u64::from(x.over),
+            low: x.low,
+        }
+    }
+}
+
+impl Folded {
     // self * m + d, which two words hold. Once past 2^64, a number stays past it.
     pub fn times(self, m: u64, d: u64) -> Folded
         requires { 0 < m }
         ensures { result ≡ fold_of (folded_value self * m + d) }
     {
-        let sum = wide::add(wide::mul(self.low, m), Wide { high: 0, low: d });
+        let sum = wide::add(wide::mul(self.low, m), d.into());
         Folded {
             low: sum.low,
             over: self.over || 0 < sum.high,

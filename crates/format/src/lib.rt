@@ -1,8 +1,9 @@
 // Formats, manners and answers, and `settle`: an exact number into a format in a manner.
 #![tactic(auto)]
 
-ghost use Rattle.std.specs.Prelude.{◌≡◌, true, ◌≤◌};
-ghost use Rattle.format.specs.Meaning.{settle, exact, answered, wrap};
+ghost use Rattle.std.specs.Prelude.{◌≡◌, true, ◌+◌, ◌*◌, ◌^◌, ◌≤◌};
+ghost use Rattle.wide.specs.Meaning.{value_of};
+ghost use Rattle.format.specs.Meaning.{settle, exact, answered, with_sign, wrap};
 ghost use Rattle.format.specs.Promise.{IsWidth, Check, Settle};
 
 mod place;
@@ -13,6 +14,7 @@ pub mod shape;
 pub use raw::Raw;
 pub use refusal::Refusal;
 pub use shape::Format;
+use wide::Wide;
 
 // How a result that may not fit is answered (01, "Domain and numbers").
 #[derive(Clone, Copy, Debug, PartialEq, Eq)]
@@ -41,6 +43,29 @@ pub struct Exact {
     pub low: u64,
 }
 
+impl Exact {
+    // The number of this sign and magnitude.
+    pub fn new(neg: bool, size: Wide) -> Exact
+        ensures { exact result.neg result.high result.low ≡ with_sign neg (value_of size) }
+    {
+        Exact {
+            neg,
+            high: size.high,
+            low: size.low,
+        }
+    }
+
+    // Its magnitude.
+    pub fn size(self) -> Wide
+        ensures { value_of result ≡ self.high * 2 ^ 64 + self.low }
+    {
+        Wide {
+            high: self.high,
+            low: self.low,
+        }
+    }
+}
+
 // Whether there is such a format: 1 where the width is none of the four, then 2 where the fraction bits are above it.
 pub fn check(width: u32, frac: u32) -> Result<(), Refusal>
     ensures { Check width frac result }
@@ -62,6 +87,7 @@ pub fn is_width(width: u32) -> bool
 }
 
 // The number into the format, in the manner; 1 or 2 where the format is none.
+#[inline(always)]
 pub fn settle<R: Raw>(x: Exact, width: u32, frac: u32, manner: Manner) -> Answered<R>
     ensures { Settle R.kind x.neg x.high x.low width frac manner result }
 {
@@ -69,7 +95,9 @@ pub fn settle<R: Raw>(x: Exact, width: u32, frac: u32, manner: Manner) -> Answer
     fit(x, format, manner)
 }
 
-// The same where the format is known to be one.
+// The same where the format is known to be one. Inlined, as `settle` is: a call would hand the number and the answer over
+// in memory, and take twice the time of a sum.
+#[inline(always)]
 pub fn fit<R: Raw>(x: Exact, format: Format, manner: Manner) -> Answered<R>
     ensures { result ≡ answered R.kind (settle manner R.kind.sign format.width (exact x.neg x.high x.low)) }
 {

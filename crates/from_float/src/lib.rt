@@ -31,11 +31,7 @@ fn from<R: Raw>(binary: Binary, pattern: u64, width: u32, frac: u32, manner: Man
 {
     let format = Format::new(width, frac)?;
     refusal::of_pattern(binary, pattern, manner)?;
-    let m = binary.magnitude(pattern, format);
-    let exact = Exact {
-        neg: binary.negative(pattern),
-        high: m.high,
-        low: m.low,
-    };
+    let magnitude = binary.magnitude(pattern, format);
+    let exact = Exact::new(binary.negative(pattern), magnitude);
     format::fit(exact, format, manner)
 }

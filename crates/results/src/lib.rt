@@ -4,8 +4,6 @@
 
 ghost use Rattle.std.specs.Prelude.{◌≡◌, ◌+◌, ◌*◌, ◌^◌, ◌≤◌, ◌<◌, pos, nat_abs, ◌+ℤ◌, ◌-ℤ◌, ◌*ℤ◌};
 ghost use Rattle.laws.specs.Floor.{floor as floor_of};
-ghost use Rattle.format.specs.Meaning.{with_sign};
-ghost use Rattle.wide.specs.Meaning.{value_of};
 ghost use Rattle.exact.specs.Meaning.{number_of, exact_of};
 ghost use Rattle.results.specs.Meaning.{sign_of, rem_euclid, quot_euclid};
 
@@ -16,7 +14,7 @@ use wide::Wide;
 pub fn abs(x: Number) -> Exact
     ensures { exact_of result ≡ pos (nat_abs (number_of x)) }
 {
-    exact::of_number(Number { neg: false, ..x })
+    Number { neg: false, ..x }.into()
 }
 
 // The sign of x, in units.
@@ -31,7 +29,7 @@ pub fn rem_euclid(x: Number, y: Number) -> Exact
     requires { 0 < y.size }
     ensures { exact_of result ≡ rem_euclid (number_of x) (number_of y) }
 {
-    exact::of_number(exact::of(units::modulo(x, y.size)))
+    exact::of(units::modulo(x, y.size)).into()
 }
 
 // The floor by |y|, with the sign turned where y is negative, in units.
@@ -73,30 +71,14 @@ fn add(x: Exact, y: Number) -> Exact
     requires { x.high * 2 ^ 64 + x.low + 2 ^ 64 ≤ 2 ^ 128 }
     ensures { exact_of result ≡ exact_of x +ℤ number_of y }
 {
-    let a = Wide {
-        high: x.high,
-        low: x.low,
-    };
-    let b = Wide {
-        high: 0,
-        low: y.size,
-    };
+    let a = x.size();
+    let b = Wide::from(y.size);
     if x.neg == y.neg {
-        signed(x.neg, wide::add(a, b))
+        Exact::new(x.neg, wide::add(a, b))
     } else if wide::less(a, b) {
-        signed(y.neg, wide::sub(b, a))
+        Exact::new(y.neg, wide::sub(b, a))
     } else {
-        signed(x.neg, wide::sub(a, b))
-    }
-}
-
-fn signed(neg: bool, size: Wide) -> Exact
-    ensures { exact_of result ≡ with_sign neg (value_of size) }
-{
-    Exact {
-        neg,
-        high: size.high,
-        low: size.low,
+        Exact::new(x.neg, wide::sub(a, b))
     }
 }
 
@@ -112,6 +94,5 @@ pub fn dist(x: Number, y: Number) -> Exact
 pub fn mean(x: Number, y: Number) -> Exact
     ensures { exact_of result ≡ floor_of (number_of x +ℤ number_of y) 2 }
 {
-    let s = exact::sum(x, y);
-    exact::floor(s.neg, s.high, s.low, 1)
+    exact::floor(exact::sum(x, y), 1)
 }

@@ -14,7 +14,7 @@ fn middle(q: u64, frac: u32) -> Wide
     requires { (frac ≤ 64) × (q < 2 ^ frac) }
     ensures { value_of result ≡ (q * 10 + 5) * 2 ^ (64 - frac) }
 {
-    let ten = wide::add(wide::mul(q, 10), Wide { high: 0, low: 5 });
+    let ten = wide::add(wide::mul(q, 10), Wide::from(5u64));
     wide::shl(ten, 64 - frac)
 }
 

@@ -46,13 +46,7 @@ impl<'a> Fraction<'a> {
         let mut digits = self.digits;
         let upper = group(&mut digits, 19 - self.zeros);
         let lower = group(&mut digits, 8);
-        wide::add(
-            wide::mul(upper, 100000000),
-            Wide {
-                high: 0,
-                low: lower,
-            },
-        )
+        wide::add(wide::mul(upper, 100000000), lower.into())
     }
 
     // What the first 27 digits make of the fraction times 2^frac.

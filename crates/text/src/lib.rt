@@ -45,11 +45,6 @@ fn settled<R: Raw>(
     requires { Readable text.now p radix format.frac }
     ensures { result ≡ answered R.kind (number_outcome manner R.kind.sign format.width format.frac radix text.now p) }
 {
-    let m = magnitude::magnitude(text, p, radix, format.frac);
-    let x = Exact {
-        neg: p.neg,
-        high: m.high(),
-        low: m.low,
-    };
-    format::fit(x, format, manner)
+    let magnitude = magnitude::magnitude(text, p, radix, format.frac);
+    format::fit(Exact::new(p.neg, magnitude.into()), format, manner)
 }

@@ -50,7 +50,7 @@ pub fn int(x: Number, width: u32, frac: u32) -> Exact
     ensures { exact_of result ≡ int_part width frac (number_of x) }
 {
     if frac == width {
-        exact::of_number(exact::of(0u64))
+        exact::of(0u64).into()
     } else {
         floor(x, Format { width: 64, frac })
     }
@@ -62,9 +62,9 @@ pub fn frac(x: Number, width: u32, frac: u32) -> Exact
     ensures { exact_of result ≡ frac_part width frac (number_of x) }
 {
     if frac == width {
-        exact::of_number(x)
+        x.into()
     } else {
-        exact::of_number(exact::of(modulo(x, 1u64 << frac)))
+        exact::of(modulo(x, 1u64 << frac)).into()
     }
 }
 

@@ -11,5 +11,5 @@ use Rattle.exact.proofs.product.Goals as goal
 pub returns : goal.returns
 returns c =
     let a = c.args in
-    let same = ap (with_sign (not (beq a.x.neg a.y.neg))) c.mul-p.ensures in
+    let same = c.new.ensures ∙ ap (with_sign (not (beq a.x.neg a.y.neg))) c.mul.ensures in
     c.floor.ensures ∙ ap (λ (z : ℤ). floor z (2 ^ a.frac)) (same ∙ product-sign a.x.neg a.y.neg a.x.size a.y.size)

@@ -8,4 +8,4 @@ use Rattle.exact.proofs.shifted_left.Goals as goal
 pub returns : goal.returns
 returns c =
     let a = c.args in
-    ap (with_sign a.x.neg) c.scaled-s.ensures ∙ scaled_sign a.x.neg a.x.size (2 ^ a.k)
+    c.new.ensures ∙ ap (with_sign a.x.neg) c.scaled.ensures ∙ scaled_sign a.x.neg a.x.size (2 ^ a.k)

@@ -18,7 +18,7 @@ overflow_mul-a c =
 pub returns-then-frac-lt64 : goal.returns-then-frac-lt64
 returns-then-frac-lt64 c =
     let m = 2 ^ c.args.frac in
-    c.of_number.ensures ∙ c.of.ensures ∙ shifted_back m (overflow_mul-a c.before.before)
+    c.into.ensures ∙ c.of.ensures ∙ shifted_back m (overflow_mul-a c.before.before)
     ∙ ap₂ (λ (x y : ℤ). floor (x *ℤ y) m) (to_z-of_z {w = w64} c.ranges.a) (to_z-of_z {w = w64} c.ranges.b)
 
 pub returns : goal.returns

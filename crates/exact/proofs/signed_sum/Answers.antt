@@ -15,7 +15,7 @@ overflow_add-a c =
 pub returns-then-y-lt-ADDS_UP : goal.returns-then-y-lt-ADDS_UP
 returns-then-y-lt-ADDS_UP c =
     let fits = c.ranges in
-    c.of_number.ensures ∙ c.of.ensures ∙ to_z-of_z {w = w64} (overflow_add-a c.before.before)
+    c.into.ensures ∙ c.of.ensures ∙ to_z-of_z {w = w64} (overflow_add-a c.before.before)
     ∙ ap₂ ◌+ℤ◌ (to_z-of_z {w = w64} fits.a) (to_z-of_z {w = w64} fits.b)
 
 pub returns : goal.returns

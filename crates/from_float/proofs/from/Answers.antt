@@ -1,6 +1,6 @@
 -- `from_float::from` meets its contract: the refusals first, then the words are settled as the number is. Assumes nothing.
-use Rattle.std.proofs.Common.{ap, sym, ◌∙◌}
-use Rattle.format.specs.Meaning.{answered}
+use Rattle.std.proofs.Common.{ap, sym, ◌∙◌, ℤ}
+use Rattle.format.specs.Meaning.{answered, settle}
 use Rattle.format.specs.Answer.{exit-answered}
 use Rattle.float.specs.Formats.{binary_of}
 use Rattle.from_float.specs.Parts.{from-as, from-opened, refuses-pattern}
@@ -21,6 +21,6 @@ returns-in_err-of_pattern g c =
 
 pub returns : goal.returns
 returns g c =
-    c.fit.ensures
-    ∙ ap (answered g.R.Raw.kind)
-    (from-opened _ _ _ _ _ c.in_ok-format.ensures.ok _ c.in_ok-of_pattern.ensures.ok c.negative.ensures c.magnitude-m.ensures)
+    let kind = g.R.Raw.kind in
+    c.fit.ensures ∙ ap (λ (z : ℤ). answered kind (settle c.args.manner kind.sign c.in_ok-format.format.width z)) c.new-exact.ensures
+    ∙ ap (answered kind) (from-opened _ _ _ _ _ c.in_ok-format.ensures.ok _ c.in_ok-of_pattern.ensures.ok c.negative.ensures c.magnitude-magnitude.ensures)

@@ -4,4 +4,4 @@ use Rattle.results.specs.Results.{size_of}
 use Rattle.results.proofs.abs.Goals as goal
 
 pub returns : goal.returns
-returns c = c.of_number.ensures ∙ size_of c.args.x.neg c.args.x.size refl
+returns c = c.into.ensures ∙ size_of c.args.x.neg c.args.x.size refl

@@ -8,4 +8,4 @@ use Rattle.results.proofs.rem_euclid.Goals as goal
 pub returns : goal.returns
 returns c =
     let x = number_of c.args.x in
-    c.of_number.ensures ∙ c.of.ensures ∙ c.modulo.ensures ∙ ap (λ (m : ℕ). x -ℤ floor_to x m) (sym (abs-sign c.args.y.neg c.args.y.size))
+    c.into.ensures ∙ c.of.ensures ∙ c.modulo.ensures ∙ ap (λ (m : ℕ). x -ℤ floor_to x m) (sym (abs-sign c.args.y.neg c.args.y.size))

@@ -18,9 +18,9 @@ pub modulo-requires : goal.modulo-requires
 modulo-requires c = omega (arith, one (word c.requires c.if-frac-width.false), pow_pos c.args.frac)
 
 pub returns-then-frac-width : goal.returns-then-frac-width
-returns-then-frac-width c = frac-none _ _ _ c.if-frac-width.true c.of_number.ensures
+returns-then-frac-width c = frac-none _ _ _ c.if-frac-width.true c.into.ensures
 
 pub returns-else-frac-width : goal.returns-else-frac-width
 returns-else-frac-width c =
     frac-some _ _ _ c.if-frac-width.false (one (word c.requires c.if-frac-width.false))
-    (c.of_number-else-frac-width.ensures ∙ c.of.ensures ∙ c.modulo.ensures)
+    (c.into-else-frac-width.ensures ∙ c.of.ensures ∙ c.modulo.ensures)

@@ -13,7 +13,7 @@ pub invariant_of-floor-clause-within : goal.invariant_of-floor-clause-within
 invariant_of-floor-clause-within c = omega (arith, c.requires)
 
 pub returns-then-frac-width : goal.returns-then-frac-width
-returns-then-frac-width c = int-none _ _ _ c.if-frac-width.true (c.of_number.ensures ∙ c.of.ensures)
+returns-then-frac-width c = int-none _ _ _ c.if-frac-width.true (c.into.ensures ∙ c.of.ensures)
 
 pub returns-else-frac-width : goal.returns-else-frac-width
 returns-else-frac-width c = int-some _ _ _ c.if-frac-width.false c.floor.ensures

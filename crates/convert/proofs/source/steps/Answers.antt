@@ -19,4 +19,4 @@ returns-then-from_frac-format g c =
 pub returns : goal.returns
 returns g c =
     let a = c.args in
-    c.of_number.ensures ∙ c.of-2.ensures ∙ c.dropped.ensures ∙ sym (steps-fewer a.from_frac a.format.frac _ (omega arith))
+    c.into.ensures ∙ c.of-2.ensures ∙ c.dropped.ensures ∙ sym (steps-fewer a.from_frac a.format.frac _ (omega arith))
