@@ -1,5 +1,5 @@
 // Arithmetic of document 01, module 4: the exact result in whole steps, then the manner of `format`.
-// `divided` is for the crate `further` too.
+// `divided` is for the crate `further` too. A format comes as its two numbers: each entry refuses what is none.
 #![tactic(auto)]
 
 ghost use Rattle.std.specs.Prelude.{IfOk, IfErr};

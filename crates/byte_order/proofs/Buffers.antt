@@ -50,12 +50,12 @@ room_of w f n {s} z q = let m = met w f (buffer_fault w n) refl z in (go (leb (w
     go true e h = omega (arith, leb-true (w / 8) n e)
     go false e h = absurd (omega arith)
 
-pub length_of : (w f n : ℕ) → or_else (fault_of w f) (length_fault w n) ≡ 0 → n ≤ 8
+pub length_of : (w f n : ℕ) → or_else (fault_of w f) (length_fault w n) ≡ 0 → (n ≡ w / 8) × (n ≤ 8)
 unfolding length_fault
 length_of w f n z = let m = met w f (length_fault w n) refl z in go (eqb n (w / 8)) refl m.word m.rest
   where
-    go : (t : Bool) → eqb n (w / 8) ≡ t → w ≤ 64 → ◌≡◌ {A = ℕ} (cond t 0 5) 0 → n ≤ 8
-    go true e l h = omega (arith, eqb-true n (w / 8) e)
+    go : (t : Bool) → eqb n (w / 8) ≡ t → w ≤ 64 → ◌≡◌ {A = ℕ} (cond t 0 5) 0 → (n ≡ w / 8) × (n ≤ 8)
+    go true e l h = let same = eqb-true n (w / 8) e in (same, omega (arith, same))
     go false e l h = absurd (omega arith)
 
 pub little-length : (w : ℕ) (a : ℤ) → length (little_of w a) ≡ w / 8

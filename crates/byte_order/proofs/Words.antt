@@ -1,15 +1,16 @@
--- std's words for the eight bytes of a word are the meaning's: of the bytes of a number, of the number of bytes among zeros, and of a word
--- with its bytes swapped. Assumes nothing.
-use Rattle.std.specs.Prelude.{◌≡◌, ℕ, zero, suc, ◌+◌, ◌-◌, ◌*◌, ◌/◌, ◌%◌, ◌^◌, ◌≤◌, List, [], ◌∷◌, ◌++◌, reverse, replicate, length, take, drop}
+-- std's words for the eight bytes of a word are the meaning's: of the bytes of a number, of the number of bytes before
+-- zeros, whose bytes they are, and of a word with its bytes swapped. Assumes nothing.
+use Rattle.std.specs.Prelude.{◌≡◌, ℕ, zero, suc, ◌+◌, ◌-◌, ◌*◌, ◌/◌, ◌%◌, ◌^◌, ◌≤◌, ◌<◌, get_or, List, [], ◌∷◌, ◌++◌, reverse, replicate, length, take, drop}
 use Rattle.std.specs.Int.{w64, byte_at, bytes_low_first, bytes_high_first, to_le_bytes, to_be_bytes, from_le_bytes, from_be_bytes, swap_bytes}
 use Rattle.std.proofs.Math.Path.{refl, sym, ap, ap₂}
+use Rattle.std.proofs.Math.Arith.{digits_div, digits_mod}
 use Rattle.std.proofs.Common.{◌∙◌, arith, inl, inr, length-append}
 use Rattle.std.proofs.Math.Nat.{div-one, div-div-eq-div-mul, pow-suc}
 use Rattle.std.proofs.lemmas.Nat.{pow-add}
-use Rattle.std.proofs.lemmas.List.{append-nil, reverse-append, drop-replicate, drop_all, length-replicate, length-reverse, take-replicate, take_all}
+use Rattle.std.proofs.lemmas.List.{reverse-append, drop-replicate, length-replicate, length-reverse, take_all}
 use Rattle.std.proofs.lemmas.Bool.{cases_lt}
 use Rattle.byte_order.specs.Meaning.{le_bytes, from_le, from_be}
-use Rattle.byte_order.specs.Bytes.{le-last, le-front, swapped-front, le-zeros, be-zeros}
+use Rattle.byte_order.specs.Bytes.{le-last, le-front, swapped-front, le-zeros}
 use Rattle.byte_order.specs.Theorems.{bytes-length}
 use borrow.Rule.Slice.PartMut.{put_mid}
 
@@ -83,7 +84,7 @@ word-be : (l : List ℕ) → length l ≡ 8 → from_be_bytes w64 l ≡ from_be 
 unfolding from_be
 word-be = eight (λ (l : List ℕ). from_be_bytes w64 l ≡ from_be 0 l) (λ a b c d e f g h. omega arith)
 
--- at most eight, among zeros
+-- at most eight, before zeros
 module _ (l : List ℕ) (n : ℕ) (h : n ≤ 8) (e : length l ≡ n) where
   pub read-low : from_le_bytes w64 (put_mid 0 n (replicate 8 0) l) ≡ from_le l
   read-low =
@@ -91,12 +92,13 @@ module _ (l : List ℕ) (n : ℕ) (h : n ≤ 8) (e : length l ≡ n) where
       let size : length (l ++ replicate (8 - n) 0) ≡ 8 = omega (arith, length-append l (replicate (8 - n) 0), length-replicate {A = ℕ} (8 - n) 0) in
       ap (from_le_bytes w64) shape ∙ word-le (l ++ replicate (8 - n) 0) size ∙ le-zeros l (8 - n)
 
-  pub read-high : from_be_bytes w64 (put_mid (8 - n) (8 - (8 - n)) (replicate 8 0) l) ≡ from_be 0 l
-  read-high =
-      let shape : put_mid (8 - n) (8 - (8 - n)) (replicate 8 0) l ≡ replicate (8 - n) 0 ++ l =
-      rw (take-replicate {X = ℕ} (8 - n) 8 0 (omega arith), drop-replicate {X = ℕ} (8 - n) 8 0, drop_all {X = ℕ} (8 - (8 - n)) (replicate (8 - (8 - n)) 0) (omega (arith, length-replicate {A = ℕ} (8 - (8 - n)) 0)), append-nil) refl in
-      let size : length (replicate (8 - n) 0 ++ l) ≡ 8 = omega (arith, length-append (replicate (8 - n) 0) l, length-replicate {A = ℕ} (8 - n) 0) in
-      ap (from_be_bytes w64) shape ∙ word-be (replicate (8 - n) 0 ++ l) size ∙ be-zeros (8 - n) l
+-- and their number has these bytes
+pub bytes-again : (l : List ℕ) → ((i : ℕ) → get_or l i 0 < 256) → le_bytes (length l) (from_le l) ≡ l
+unfolding le_bytes from_le
+bytes-again [] h = refl
+bytes-again (b ∷ t) h =
+    ap₂ (λ (d : ℕ) (r : List ℕ). d ∷ r) (digits_mod (from_le t) {m = 256} (h 0))
+    (ap (le_bytes (length t)) (digits_div (from_le t) {m = 256} (h 0)) ∙ bytes-again t (λ i. h (suc i)))
 
 -- the low bytes of a swapped word, where its high ones were
 powers : (n : ℕ) → 2 ^ (8 * n) ≡ 256 ^ n

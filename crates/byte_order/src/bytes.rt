@@ -1,7 +1,7 @@
 // The low W bits of a raw as bytes of a word, to a lent buffer and back.
-ghost use Rattle.std.specs.Prelude.{◌≡◌, ◌≤◌, ◌++◌, false, pos, length, drop};
+ghost use Rattle.std.specs.Prelude.{◌≡◌, ◌/◌, ◌≤◌, ◌++◌, false, pos, length, drop};
 ghost use Rattle.format.specs.Meaning.{answered, done, wrap};
-ghost use Rattle.byte_order.specs.Meaning.{from_le, from_be, low_bits, little_of};
+ghost use Rattle.byte_order.specs.Meaning.{le_bytes, from_le, from_be, low_bits};
 
 use format::{Answer, Answered, Exact, Format, Manner, Raw};
 
@@ -28,25 +28,15 @@ pub(crate) fn wrapped<R: Raw>(x: u64, format: Format) -> Answered<R>
     format::fit(x, format, Manner::Wrapping)
 }
 
-// The low W bits of a with their bytes in the other order.
-pub(crate) fn swapped<R: Raw>(a: R, format: Format) -> u64
-    ensures { result ≡ from_be 0 (little_of format.width (R.kind.number_of a)) }
+// The W / 8 low bytes of x in the other order.
+pub(crate) fn turned(x: u64, format: Format) -> u64
+    ensures { result ≡ from_be 0 (le_bytes (format.width / 8) x) }
 {
-    low_bits(a, format).swap_bytes() >> (64 - format.width)
+    x.swap_bytes() >> (64 - format.width)
 }
 
-// The number of these bytes, the first one highest.
-pub(crate) fn read_be(bytes: &[u8]) -> u64
-    requires { length bytes.now ≤ 8 }
-    ensures { result ≡ from_be 0 bytes.now }
-{
-    let mut word = [0u8; 8];
-    word[8 - bytes.len()..].copy_from_slice(bytes);
-    u64::from_be_bytes(word)
-}
-
-// The number of these bytes, the first one lowest.
-pub(crate) fn read_le(bytes: &[u8]) -> u64
+// The number of these bytes, the first one lowest; `turned` makes of it that of the other order.
+pub(crate) fn read(bytes: &[u8]) -> u64
     requires { length bytes.now ≤ 8 }
     ensures { result ≡ from_le bytes.now }
 {

@@ -1,4 +1,5 @@
 // Byte order of document 01, module 4: the low W bits of a raw as W / 8 bytes, swapped, written and read.
+// A format comes as its two numbers: each entry refuses what is none.
 #![tactic(auto)]
 
 ghost use Rattle.byte_order.specs.Meaning.{little_of, big_of};
@@ -14,7 +15,8 @@ pub fn swap_bytes<R: Raw>(a: R, width: u32, frac: u32) -> Answered<R>
     ensures { Swap R.kind a width frac result }
 {
     let format = Format::new(width, frac)?;
-    bytes::wrapped(bytes::swapped(a, format), format)
+    let low = bytes::low_bits(a, format);
+    bytes::wrapped(bytes::turned(low, format), format)
 }
 
 // The W / 8 bytes of a to the front of the buffer, the highest first; 5 where they do not fit. The answer is how many.
@@ -40,7 +42,8 @@ pub fn from_be_bytes<R: Raw>(bytes: &[u8], width: u32, frac: u32) -> Answered<R>
     ensures { FromBe R.kind bytes.now width frac result }
 {
     let format = sized::exactly(width, frac, bytes.len())?;
-    bytes::wrapped(bytes::read_be(bytes), format)
+    let low = bytes::read(bytes);
+    bytes::wrapped(bytes::turned(low, format), format)
 }
 
 // The same with the lowest byte first
@@ -48,5 +51,5 @@ pub fn from_le_bytes<R: Raw>(bytes: &[u8], width: u32, frac: u32) -> Answered<R>
     ensures { FromLe R.kind bytes.now width frac result }
 {
     let format = sized::exactly(width, frac, bytes.len())?;
-    bytes::wrapped(bytes::read_le(bytes), format)
+    bytes::wrapped(bytes::read(bytes), format)
 }

@@ -7,8 +7,8 @@ pub returns-in_err-format : goal.returns-in_err-format
 returns-in_err-format g c =
     exit-answered g.R.Raw.kind _ _ c.from_residual.result c.from_residual.ensures.1 c.in_err-format.ensures.err
 
-pub read_le-requires : goal.read_le-requires
-read_le-requires g c = length_of _ _ _ c.in_ok-format.ensures.ok.free
+pub read-requires : goal.read-requires
+read-requires g c = (length_of _ _ _ c.in_ok-format.ensures.ok.free).1
 
 pub returns : goal.returns
-returns g c = opened g.R.Raw.kind c.in_ok-format.ensures.ok c.read_le.ensures c.wrapped.ensures
+returns g c = opened g.R.Raw.kind c.in_ok-format.ensures.ok c.read.ensures c.wrapped.ensures

@@ -1,7 +1,6 @@
--- `byte_order::swap_bytes` meets its promise: the format's refusals first, then the low bits, swapped and wrapped. Assumes nothing.
-use Rattle.std.proofs.Common.{ℕ, ap, ◌∙◌}
+-- `byte_order::swap_bytes` meets its promise: the format's refusals first, then the low bits, turned and wrapped.
+-- Assumes nothing.
 use Rattle.format.specs.Answer.{exit-answered}
-use Rattle.byte_order.specs.Meaning.{from_be, little_of}
 use Rattle.byte_order.proofs.Buffers.{opened}
 use Rattle.byte_order.proofs.swap_bytes.Goals as goal
 
@@ -11,6 +10,5 @@ returns-in_err-format g c =
 
 pub returns : goal.returns
 returns g c =
-    let k = g.R.Raw.kind in
     let o = c.in_ok-format.ensures.ok in
-    opened k o (c.swapped.ensures ∙ ap (λ (w : ℕ). from_be 0 (little_of w (k.number_of c.args.a))) o.width_is) c.wrapped.ensures
+    opened g.R.Raw.kind o (rw (c.low_bits-low.ensures, o.width_is) at c.turned.ensures) c.wrapped.ensures

@@ -1,8 +1,8 @@
--- `byte_order::bytes::read_le` meets its contract: zeros above the bytes change nothing. Assumes nothing.
+-- `byte_order::bytes::read` meets its contract: zeros above the bytes change nothing. Assumes nothing.
 use Rattle.std.proofs.Common.{◌∙◌, ap, length}
 use Rattle.byte_order.specs.Meaning.{from_le}
 use Rattle.byte_order.proofs.Words.{read-low}
-use Rattle.byte_order.proofs.bytes.read_le.Goals as goal
+use Rattle.byte_order.proofs.bytes.read.Goals as goal
 
 pub returns : goal.returns
 returns c =
