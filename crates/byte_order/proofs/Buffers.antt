@@ -1,6 +1,6 @@
 -- The answers of the byte functions: the low bits that a wrapped answer holds, a raw behind the refusals, and what a lent buffer holds
 -- after. Assumes nothing.
-use Rattle.std.specs.Prelude.{◌≡◌, refl, Bool, true, false, cond, ℕ, ◌/◌, ◌+◌, ◌*◌, ◌^◌, ◌≤◌, eqb, leb, ℤ, pos, List, ◌++◌, length, drop, Ok, Err}
+use Rattle.std.specs.Prelude.{◌≡◌, refl, Bool, true, false, cond, ℕ, ◌/◌, ◌≤◌, eqb, leb, ℤ, pos, List, ◌++◌, length, drop, Ok, Err}
 use Rattle.std.specs.Result.{IsErrAnd}
 use Rattle.std.proofs.Common.{ap, ap₂, ◌∙◌, arith}
 use Rattle.std.proofs.lemmas.List.{length-reverse}
@@ -9,11 +9,10 @@ use Rattle.laws.specs.Diff.{up}
 use Rattle.format.specs.declared.Answer.{Answer}
 use Rattle.format.specs.declared.Manner.TheVariants.{Wrapping}
 use Rattle.format.specs.declared.refusal.Refusal.{Refusal}
-use Rattle.format.specs.Meaning.{Kind, unsigned_kind, unsigned, Answered, answered, fault_of, unless, settle, wrap, done, with_sign, LetsThrough, Refuses}
+use Rattle.format.specs.Meaning.{Kind, unsigned_kind, unsigned, Answered, answered, fault_of, unless, settle, wrap, done, LetsThrough, Refuses}
 use Rattle.format.specs.Answer.{pass-answered, exit-answered}
 use Rattle.exact.specs.Meaning.{or_else}
 use Rattle.exact.specs.Refusals.{met}
-use Rattle.exact.specs.Signs.{one_word}
 use Rattle.byte_order.specs.Meaning.{low_bits, little_of, big_of, buffer_fault, length_fault, buffer_of}
 use Rattle.byte_order.specs.Promise.{Stored}
 use Rattle.byte_order.specs.Theorems.{bytes-length}
@@ -30,10 +29,10 @@ module _ (w : ℕ) {x y : ℤ} {a : Answered ℕ} (e : x ≡ y) (q : a ≡ answe
 
 -- one word, wrapped; and behind the refusals, in the format that they let through
 module _ {A : Type 0} (c : Kind A) where
-  pub word_wrapped : (w x : ℕ) {r : Answered A} → r ≡ answered c (settle Wrapping c.sign w (with_sign false (0 * 2 ^ 64 + x)))
+  pub word_wrapped : (w x : ℕ) {z : ℤ} {r : Answered A} → z ≡ pos x → r ≡ answered c (settle Wrapping c.sign w z)
       → r ≡ answered c (done (wrap c.sign w (pos x)) false)
-  unfolding settle with_sign
-  word_wrapped w x p = p ∙ ap (λ (z : ℤ). answered c (done (wrap c.sign w z) false)) (one_word false x)
+  unfolding settle
+  word_wrapped w x e p = p ∙ ap (λ (z : ℤ). answered c (done (wrap c.sign w z) false)) e
 
   pub opened : {n w f v g x y : ℕ} {r : Answered A} → LetsThrough n w f v g → x ≡ y → r ≡ answered c (done (wrap c.sign v (pos x)) false)
       → r ≡ answered c (unless n (done (wrap c.sign w (pos y)) false))

@@ -3,14 +3,13 @@ ghost use Rattle.std.specs.Prelude.{◌≡◌, ◌/◌, ◌≤◌, ◌++◌, fal
 ghost use Rattle.format.specs.Meaning.{answered, done, wrap};
 ghost use Rattle.byte_order.specs.Meaning.{le_bytes, from_le, from_be, low_bits};
 
-use format::{Answer, Answered, Exact, Format, Manner, Raw};
+use format::{Answer, Answered, Format, Manner, Raw};
 
 // The low W bits of a: the wrapping manner never refuses.
 pub(crate) fn low_bits<R: Raw>(a: R, format: Format) -> u64
     ensures { result ≡ low_bits format.width (R.kind.number_of a) }
 {
-    let x = exact::of_number(exact::of(a));
-    match format::fit::<u64>(x, format, Manner::Wrapping) {
+    match format::fit::<u64>(exact::of(a).into(), format, Manner::Wrapping) {
         Ok(low) => low.raw,
         Err(_) => 0,
     }
@@ -20,12 +19,7 @@ pub(crate) fn low_bits<R: Raw>(a: R, format: Format) -> u64
 pub(crate) fn wrapped<R: Raw>(x: u64, format: Format) -> Answered<R>
     ensures { result ≡ answered R.kind (done (wrap R.kind.sign format.width (pos x)) false) }
 {
-    let x = Exact {
-        neg: false,
-        high: 0,
-        low: x,
-    };
-    format::fit(x, format, Manner::Wrapping)
+    format::fit(exact::of(x).into(), format, Manner::Wrapping)
 }
 
 // The W / 8 low bytes of x in the other order.
