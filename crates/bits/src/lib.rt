@@ -38,9 +38,9 @@ pub fn bits(
     let places = width * (after as u64);
     let step = log2(base) * exp;
     if down {
-        return number.scaled(frac as u64, places + step);
+        return number.scaled(u64::from(frac), places + step);
     }
-    number.scaled(frac as u64 + step, places)
+    number.scaled(u64::from(frac) + step, places)
 }
 
 // Of 1, 2, 8 and 16.
@@ -48,7 +48,7 @@ fn log2(power: u32) -> u64
     requires { Power power }
     ensures { (power ≡ 2 ^ result) × (result ≤ 4) }
 {
-    power.ilog2() as u64
+    u64::from(power.ilog2())
 }
 
 // 2^k in one word.

@@ -25,7 +25,7 @@ fn exp_digit(down: bool, e: u64, d: u32) -> ExpStep
     requires { e ≤ 2147483648 }
     ensures { result ≡ exp_digit down e d }
 {
-    let next = e * 10 + d as u64;
+    let next = e * 10 + u64::from(d);
     if next <= exp_limit(down) {
         Ok(next)
     } else {

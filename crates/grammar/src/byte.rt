@@ -21,9 +21,9 @@ pub fn digit_of(b: u8) -> u32
     ensures { result ≡ digit_of b }
 {
     match b {
-        b'0'..=b'9' => (b - b'0') as u32,
-        b'A'..=b'F' => (b - b'A' + 10) as u32,
-        b'a'..=b'f' => (b - b'a' + 10) as u32,
+        b'0'..=b'9' => u32::from(b - b'0'),
+        b'A'..=b'F' => u32::from(b - b'A' + 10),
+        b'a'..=b'f' => u32::from(b - b'a' + 10),
         _ => 16,
     }
 }

@@ -57,7 +57,7 @@ pub fn literal(text: &[u8], signed: bool) -> Written
     ensures { FindsLiteral (sign_by signed) text.now result }
 {
     let neg = minus(text, signed);
-    let from = neg as usize;
+    let from = usize::from(neg);
     let body = &text[from..];
     let radix = prefix_radix(body);
     let reader = Reader { radix, skip: true };

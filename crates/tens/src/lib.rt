@@ -65,7 +65,7 @@ impl<'a> Number<'a> {
     {
         let mut digits = self.digits;
         let all = digits.number(self.count, 10);
-        lifted(all, zeros).scaled(self.frac as u64)
+        lifted(all, zeros).scaled(u64::from(self.frac))
     }
 
     // The last `places` digits stand after the point, with zeros before them where there are fewer.
@@ -129,7 +129,7 @@ impl<'a> Fraction<'a> {
     {
         let q = self.first();
         let side = self.side(q);
-        let sum = whole.scaled(self.frac as u64).plus(q);
+        let sum = whole.scaled(u64::from(self.frac)).plus(q);
         sum.rounded(side)
     }
 }

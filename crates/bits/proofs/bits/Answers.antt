@@ -1,8 +1,5 @@
 -- `bits::bits` meets its contract: the radix and what the exponent scales by are powers of two, so all of it is one shift. Assumes nothing.
-use Rattle.std.proofs.Common.{arith, ap, ◌∙◌, ℕ, List, ◌*◌, ◌^◌, ◌+◌}
-use Rattle.laws.specs.Nearest.{nearest_even}
-use Rattle.fold.specs.Fold.{fold_of}
-use Rattle.bits.specs.Cut.{bits_number}
+use Rattle.std.proofs.Common.{arith}
 use Rattle.bits.specs.Bits.{places-small, step_small, down-done, up_done}
 use Rattle.bits.proofs.bits.Goals as goal
 
@@ -19,7 +16,7 @@ returns-then-down c =
     let width = c.log2-width in
     let step = c.log2 in
     down-done a.body.now a.after a.radix a.base a.exp a.frac width.result step.result width.ensures.0 step.ensures.0 c.if-down.true
-    (c.scaled.ensures ∙ ap (λ (ds : List ℕ). fold_of (nearest_even (bits_number ds width.result * 2 ^ a.frac) (2 ^ (width.result * a.after + step.result * a.exp)))) c.of.ensures)
+    (rw (c.from.ensures, c.of.ensures) at c.scaled.ensures)
 
 pub returns : goal.returns
 returns c =
@@ -27,4 +24,4 @@ returns c =
     let width = c.log2-width in
     let step = c.log2 in
     up_done a.body.now a.after a.radix a.base a.exp a.frac width.result step.result width.ensures.0 step.ensures.0 c.if-down.false
-    (c.scaled-2.ensures ∙ ap (λ (ds : List ℕ). fold_of (nearest_even (bits_number ds width.result * 2 ^ (a.frac + step.result * a.exp)) (2 ^ (width.result * a.after)))) c.of.ensures)
+    (rw (c.from-2.ensures, c.of.ensures) at c.scaled-2.ensures)

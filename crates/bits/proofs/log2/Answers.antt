@@ -3,4 +3,4 @@ use Rattle.bits.specs.Bits.{log-power}
 use Rattle.bits.proofs.log2.Goals as goal
 
 pub returns : goal.returns
-returns c = log-power c.ilog2.result c.requires c.ilog2.ensures.power_le c.ilog2.ensures.next_power_gt
+returns c = rw c.from.ensures (log-power c.ilog2.result c.requires c.ilog2.ensures.power_le c.ilog2.ensures.next_power_gt)

@@ -20,4 +20,4 @@ returns c =
     let s = c.args.self.now in
     let ds = digits_left s.digits in
     beside-folded (replicate s.zeros 0 ++ ds) (small-zeros s.zeros ds (small_all ds s.decimal.below)) s.frac s.decimal.few (folded_value c.args.whole)
-    c.first-q.result c.first-q.ensures c.side-side.ensures c.scaled.ensures c.plus-sum.ensures c.rounded.ensures
+    c.first-q.result c.first-q.ensures c.side-side.ensures (rw c.from.ensures at c.scaled.ensures) c.plus-sum.ensures c.rounded.ensures

@@ -14,4 +14,4 @@ lifted-requires c =
 pub returns : goal.returns
 returns c =
     let s = c.args.self.now in
-    past-folded (digits_left s.digits) s.count c.args.zeros s.frac s.decimal.counted c.number-all.ensures.value c.lifted.ensures c.scaled.ensures
+    past-folded (digits_left s.digits) s.count c.args.zeros s.frac s.decimal.counted c.number-all.ensures.value c.lifted.ensures (rw c.from.ensures at c.scaled.ensures)
