@@ -10,6 +10,7 @@ use std::cmp::Ordering;
 use wide::Wide;
 
 // The middle above q, (2 q + 1) / 2^(frac + 1), as the comparison starts: ten times it, in units of 2^-64.
+// It asks for q and frac and no digits: no method of `Fraction`, so what that knows of frac is a clause here.
 fn middle(q: u64, frac: u32) -> Wide
     requires { (frac ≤ 64) × (q < 2 ^ frac) }
     ensures { value_of result ≡ (q * 10 + 5) * 2 ^ (64 - frac) }

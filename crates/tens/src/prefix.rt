@@ -26,6 +26,7 @@ fn group(digits: &mut Digits<'_>, count: u32) -> u64
 }
 
 // The whole part of val / 10^27 times 2^frac.
+// Its digits are one number by now: no method of `Fraction`, so what that knows of frac is a clause here.
 fn first_raw(val: Wide, frac: u32) -> u64
     requires { (value_of val < 10 ^ 27) × (frac ≤ 64) }
     ensures { result ≡ first_raw frac (value_of val) }
