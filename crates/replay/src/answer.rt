@@ -2,31 +2,35 @@
 use crate::line::Number;
 use format::{Answered, Raw};
 
-// Number and flag of an answer, and its value.
-#[derive(Clone, Copy)]
+// An answer as a line stores it: its number and flag, and its value.
+#[derive(Clone, Copy, PartialEq, Eq)]
 pub(crate) struct Stored {
     pub number: u64,
     pub flag: u64,
     pub value: Number,
 }
 
-// Whether the answer is another.
-pub(crate) fn differs<R: Raw>(stored: Stored, answered: Answered<R>) -> bool {
-    match answered {
-        Ok(answer) => other(
-            stored,
-            0,
-            answer.flag,
-            answer.raw.is_below(),
-            answer.raw.magnitude(),
-        ),
-        Err(refusal) => other(stored, refusal.number(), false, false, 0),
+impl<R: Raw> From<Answered<R>> for Stored {
+    fn from(answered: Answered<R>) -> Stored {
+        match answered {
+            Ok(answer) => Stored {
+                number: 0,
+                flag: u64::from(answer.flag),
+                value: Number {
+                    below: answer.raw.is_below(),
+                    size: answer.raw.magnitude(),
+                },
+            },
+            Err(refusal) => Stored {
+                number: u64::from(refusal.number()),
+                flag: 0,
+                value: Number::ZERO,
+            },
+        }
     }
 }
 
-fn other(stored: Stored, number: u32, flag: bool, below: bool, size: u64) -> bool {
-    stored.number != u64::from(number)
-        || stored.flag != u64::from(flag)
-        || stored.value.below != below
-        || stored.value.size != size
+// Whether the answer is another.
+pub(crate) fn differs<R: Raw>(stored: Stored, answered: Answered<R>) -> bool {
+    stored != Stored::from(answered)
 }

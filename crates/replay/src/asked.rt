@@ -1,19 +1,27 @@
-// What a line asks, by its kind.
-use crate::line::Line;
+// What a line asks, by its kind and the sign of its format.
+use crate::kind::{Kind, Question};
+use crate::line::{Line, SIGNED};
 use crate::{logarithm, reader};
+use format::Raw;
 
-// Whether a line stores an answer: a comment stores none.
-pub(crate) fn told(line: &Line) -> bool {
-    line.kind != b'#'
+// Whether the answer differs from the one that is stored; None of a comment, which stores none. Where no function is
+// asked, or of no sign, there is no answer.
+pub(crate) fn differs(line: &Line) -> Option<bool> {
+    match line.kind {
+        Kind::Comment => None,
+        Kind::Question(question) => Some(match line.numbers[SIGNED].size {
+            0 => answered::<u64>(question, line),
+            1 => answered::<i64>(question, line),
+            _ => true,
+        }),
+        Kind::Other => Some(true),
+    }
 }
 
-// Whether the answer differs from the one that is stored. A comment asks nothing, and another kind has no answer.
-pub(crate) fn differs(line: &Line) -> bool {
-    match line.kind {
-        b'#' => false,
-        b'p' => reader::plain(line),
-        b'l' => reader::literal(line),
-        b'g' => logarithm::log10(line),
-        _ => true,
+fn answered<R: Raw>(question: Question, line: &Line) -> bool {
+    match question {
+        Question::Plain => reader::plain::<R>(line),
+        Question::Literal => reader::literal::<R>(line),
+        Question::Logarithm => logarithm::log10::<R>(line),
     }
 }

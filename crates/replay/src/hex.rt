@@ -19,10 +19,6 @@ impl Text {
         }
     }
 
-    pub(crate) fn clear(&mut self) {
-        self.digits = 0;
-    }
-
     // One more digit. An empty text is a `-`, which is none.
     pub(crate) fn put(&mut self, b: u8) {
         if b == b'-' || self.digits >= 2 * ROOM {

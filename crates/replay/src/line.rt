@@ -2,6 +2,7 @@
 ghost use Rattle.std.specs.Prelude.{◌≤◌};
 
 use crate::hex::Text;
+use crate::kind::Kind;
 
 // The format stands in every line. What follows is the kind's own: reader.rt, logarithm.rt.
 pub(crate) const SIGNED: usize = 0;
@@ -17,7 +18,7 @@ const NUMBERS: usize = 8;
 const TENTH: u64 = 1844674407370955161;
 
 // A number by its magnitude, as the raws of both signs are compared. The flag is a sign, so this is no Option.
-#[derive(Clone, Copy)]
+#[derive(Clone, Copy, PartialEq, Eq)]
 pub(crate) struct Number {
     pub below: bool,
     pub size: u64,
@@ -26,35 +27,21 @@ pub(crate) struct Number {
 // `at` counts the fields before the one that comes: none before the kind's letter.
 #[derive(Drop)]
 pub(crate) struct Line {
-    pub kind: u8,
+    pub kind: Kind,
     pub numbers: [Number; NUMBERS],
     pub text: Text,
     pub at: usize,
     ghost inside: { at ≤ 9 },
 }
 
-// A field that is not there is 0.
-const NONE: Number = Number {
-    below: false,
-    size: 0,
-};
-
 impl Line {
     pub(crate) fn new() -> Line {
         Line {
-            kind: 0,
-            numbers: [NONE; NUMBERS],
+            kind: Kind::Other,
+            numbers: [Number::ZERO; NUMBERS],
             text: Text::new(),
             at: 0,
         }
-    }
-
-    // A new line: of the one before nothing is left.
-    pub(crate) fn clear(&mut self) {
-        self.kind = 0;
-        self.numbers = [NONE; NUMBERS];
-        self.text.clear();
-        self.at = 0;
     }
 
     // The next field. Further blanks, as a comment has, stay in the last.
@@ -67,30 +54,39 @@ impl Line {
     // One more byte of a field: the letter, a sign or a digit of a number, a digit of the text.
     pub(crate) fn put(&mut self, b: u8) {
         if self.at == 0 {
-            self.kind = b;
+            self.kind = Kind::from(b);
         } else if self.at <= NUMBERS {
             let number = self.numbers[self.at - 1];
-            self.numbers[self.at - 1] = longer(number, b);
+            self.numbers[self.at - 1] = number.longer(b);
         } else {
             self.text.put(b);
         }
     }
 }
 
-// A number with one digit more, or a sign. Beyond a word, where no stored number is, it is some other.
-fn longer(n: Number, b: u8) -> Number {
-    if b == b'-' {
-        return Number { below: true, ..n };
-    }
-    let size = if n.size <= TENTH {
-        (n.size * 10).wrapping_add(u64::from(b.saturating_sub(b'0')))
-    } else {
-        0
-    };
-    Number { size, ..n }
-}
-
 impl Number {
+    // What a field that is not there is.
+    pub(crate) const ZERO: Number = Number {
+        below: false,
+        size: 0,
+    };
+
+    // The number with one digit more, or a sign. Beyond a word, where no stored number is, it is some other.
+    fn longer(self, b: u8) -> Number {
+        if b == b'-' {
+            return Number {
+                below: true,
+                ..self
+            };
+        }
+        let size = if self.size <= TENTH {
+            (self.size * 10).wrapping_add(u64::from(b.saturating_sub(b'0')))
+        } else {
+            0
+        };
+        Number { size, ..self }
+    }
+
     // As a number of 32 bits, or the greatest, which is no width, no place of the point and no radix.
     pub(crate) fn small(self) -> u32 {
         u32::try_from(self.size).unwrap_or(u32::MAX)

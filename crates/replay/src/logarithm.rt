@@ -1,8 +1,7 @@
 // The question of the logarithm: kind g.
-use crate::answer;
-use crate::answer::Stored;
-use crate::line::{FRAC, Line, SIGNED, WIDTH};
-use format::{Exact, Manner};
+use crate::answer::{self, Stored};
+use crate::line::{FRAC, Line, WIDTH};
+use format::{Exact, Manner, Raw};
 
 // The fields after the format.
 const NUMBER: usize = 3;
@@ -11,25 +10,19 @@ const VALUE: usize = 4;
 
 const RAW: usize = 5;
 
-// A raw that is no signed word has no answer.
-pub(crate) fn log10(line: &Line) -> bool {
+// A raw that is no signed word has no answer. Of an unsigned one the magnitude is asked, whatever its sign.
+pub(crate) fn log10<R: Raw>(line: &Line) -> bool {
     let width = line.numbers[WIDTH].small();
     let frac = line.numbers[FRAC].small();
     let raw = line.numbers[RAW];
-    match line.numbers[SIGNED].size {
-        0 => answer::differs(stored(line), log10::log10(raw.size, width, frac)),
-        1 => {
-            let x = Exact {
-                neg: raw.below,
-                high: 0,
-                low: raw.size,
-            };
-            match format::settle::<i64>(x, 64, 0, Manner::Strict) {
-                Ok(word) => answer::differs(stored(line), log10::log10(word.raw, width, frac)),
-                Err(_) => true,
-            }
-        }
-        _ => true,
+    let x = Exact {
+        neg: R::signed() && raw.below,
+        high: 0,
+        low: raw.size,
+    };
+    match format::settle::<R>(x, 64, 0, Manner::Strict) {
+        Ok(word) => answer::differs(stored(line), log10::log10(word.raw, width, frac)),
+        Err(_) => true,
     }
 }
 

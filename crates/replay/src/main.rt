@@ -5,6 +5,7 @@
 mod answer;
 mod asked;
 mod hex;
+mod kind;
 mod line;
 mod logarithm;
 mod reader;
@@ -19,6 +20,14 @@ use std::{fs, io};
 struct Tally {
     answers: u64,
     differ: u64,
+}
+
+impl Tally {
+    // One answer more. The counts wrap only in name: no file has as many lines as a word has numbers.
+    fn count(&mut self, differs: bool) {
+        self.answers = self.answers.wrapping_add(1);
+        self.differ = self.differ.wrapping_add(u64::from(differs));
+    }
 }
 
 // The bytes of a file that are read at most: room for samples three times as long.
@@ -58,14 +67,14 @@ fn whole(file: &mut impl Read) -> io::Result<Tally> {
     Ok(tally)
 }
 
-// At the end of a line asks what it asks, and makes room for the next. The counts wrap only in name: no file has
-// as many lines as a word has numbers.
+// At the end of a line asks what it asks, and begins a new one: of the one before nothing is left.
 fn step(b: u8, line: &mut Line, tally: &mut Tally) {
     match b {
         b'\n' => {
-            tally.answers = tally.answers.wrapping_add(u64::from(asked::told(line)));
-            tally.differ = tally.differ.wrapping_add(u64::from(asked::differs(line)));
-            line.clear();
+            if let Some(differs) = asked::differs(line) {
+                tally.count(differs);
+            }
+            *line = Line::new();
         }
         b' ' => line.next(),
         _ => line.put(b),

@@ -1,8 +1,7 @@
 // The questions to the readers: kinds p, a plain text, and l, a literal.
-use crate::answer;
-use crate::answer::Stored;
-use crate::line::{FRAC, Line, SIGNED, WIDTH};
-use format::Manner;
+use crate::answer::{self, Stored};
+use crate::line::{FRAC, Line, WIDTH};
+use format::{Manner, Raw};
 
 // The fields between the format and the text.
 const RADIX: usize = 3;
@@ -15,35 +14,24 @@ const FLAG: usize = 6;
 
 const VALUE: usize = 7;
 
-pub(crate) fn plain(line: &Line) -> bool {
+pub(crate) fn plain<R: Raw>(line: &Line) -> bool {
     let text = line.text.bytes();
     let width = line.numbers[WIDTH].small();
     let frac = line.numbers[FRAC].small();
     let radix = line.numbers[RADIX].small();
     let manner = manner(line.numbers[MANNER].size);
-    match line.numbers[SIGNED].size {
-        0 => answer::differs(
-            stored(line),
-            text::read::<u64>(text, width, frac, radix, manner),
-        ),
-        1 => answer::differs(
-            stored(line),
-            text::read::<i64>(text, width, frac, radix, manner),
-        ),
-        _ => true,
-    }
+    answer::differs(
+        stored(line),
+        text::read::<R>(text, width, frac, radix, manner),
+    )
 }
 
 // A literal has its radix within it, and is read in one manner.
-pub(crate) fn literal(line: &Line) -> bool {
+pub(crate) fn literal<R: Raw>(line: &Line) -> bool {
     let text = line.text.bytes();
     let width = line.numbers[WIDTH].small();
     let frac = line.numbers[FRAC].small();
-    match line.numbers[SIGNED].size {
-        0 => answer::differs(stored(line), text::read_literal::<u64>(text, width, frac)),
-        1 => answer::differs(stored(line), text::read_literal::<i64>(text, width, frac)),
-        _ => true,
-    }
+    answer::differs(stored(line), text::read_literal::<R>(text, width, frac))
 }
 
 fn stored(line: &Line) -> Stored {
