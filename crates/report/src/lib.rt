@@ -46,11 +46,11 @@ fn open<R: Files>(rt: &R, name: &[u8]) -> io::Result<R::File> {
 fn opened(rt: &(impl Print + Eprint), file: &mut impl Read, name: &[u8]) -> io::Result<()> {
     let mut buf = [0u8; ROOM];
     let n = fill(file, &mut buf);
-    if let Err(error) = ended(file) {
-        if n < fitting::FILE_LIMIT {
-            fail(rt, name, error);
-            return refusal::unread(rt, name);
-        }
+    if let Err(error) = ended(file)
+        && n < fitting::FILE_LIMIT
+    {
+        fail(rt, name, error);
+        return refusal::unread(rt, name);
     }
     bytes(rt, &buf[..n])
 }

@@ -11,22 +11,9 @@ const LONGEST: usize = 67;
 pub(crate) fn value(rt: &impl Print, raw: i64, width: u32, frac: u32) -> io::Result<()> {
     let mut buf = [0u8; LONGEST];
     match decimal::write(raw, width, frac, &mut buf) {
-        Ok(written) => start(rt, &buf, written.raw as usize),
+        Ok(written) => rt.write_all(buf.get(..written.raw as usize).unwrap_or(b"")),
         Err(_) => Ok(()),
     }
-}
-
-// The first n bytes: those that `decimal::write` wrote.
-fn start(rt: &impl Print, bytes: &[u8], n: usize) -> io::Result<()> {
-    if n <= bytes.len() {
-        return rt.write_all(&bytes[..n]);
-    }
-    Ok(())
-}
-
-// An entry of a list, 0 past its end.
-pub(crate) fn entry(list: &[u32], i: usize) -> u32 {
-    list.get(i).copied().unwrap_or(0)
 }
 
 // A line of the file on one line: a byte that cannot be printed, or a backslash, as its number, `\x0d`.

@@ -47,16 +47,13 @@ pub(crate) fn lines(
     answers: &[u32],
 ) -> io::Result<()> {
     rt.println("refused 42: these lines are not numbers of the format")?;
-    for (number, inner) in lines.iter().zip(answers) {
+    for (number, inner) in lines.iter().zip(answers).filter(|(_, inner)| **inner != 0) {
         line(rt, file, *number, *inner)?;
     }
     end(rt)
 }
 
 fn line(rt: &impl Print, file: &[u8], number: u32, inner: u32) -> io::Result<()> {
-    if inner == 0 {
-        return Ok(());
-    }
     let text = nth(file, number);
     print!(rt; "line {number}: ")?;
     out::quoted(rt, text)?;

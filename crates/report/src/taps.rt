@@ -7,8 +7,7 @@ const WIDTH: u32 = 16;
 const FRAC: u32 = 15;
 
 pub(crate) fn show(rt: &impl Print, lines: &[u32], taps: &[i16]) -> io::Result<()> {
-    for (i, raw) in taps.iter().enumerate() {
-        let line = out::entry(lines, i);
+    for (i, (raw, line)) in taps.iter().zip(lines).enumerate() {
         print!(rt; "tap {} line {line}", i + 1)?;
         level(rt, *raw)?;
     }

@@ -25,6 +25,7 @@ fn judged(rt: &impl Print, taps: &[i16], witness: &mut [i16]) -> io::Result<()> 
     Ok(())
 }
 
+// Verdicts are numbers here, as `headroom` answers them and C is handed them.
 fn in_words(verdict: u64) -> &'static str {
     match verdict {
         0 => "verdict 0: no samples clip",
@@ -43,9 +44,8 @@ fn driven(rt: &impl Print, taps: &[i16], witness: &[i16]) -> io::Result<()> {
 
 // The exact sum of the products: no sum of 64 of them comes near the ends of 64 bits.
 fn sum(taps: &[i16], samples: &[i16]) -> i64 {
-    let mut total: i64 = 0;
-    for (tap, sample) in taps.iter().zip(samples) {
-        total = total.saturating_add(i64::from(*tap) * i64::from(*sample));
-    }
-    total
+    taps.iter()
+        .zip(samples)
+        .map(|(tap, sample)| i64::from(*tap) * i64::from(*sample))
+        .fold(0, i64::saturating_add)
 }
