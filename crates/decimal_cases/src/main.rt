@@ -4,7 +4,7 @@
 
 ghost use Rattle.std.specs.Prelude.{◌≤◌};
 
-use format::{Answer, Answered, Raw};
+use format::{Answered, Raw};
 use std::io;
 
 fn main(rt: HostRuntime) -> io::Result<()> {
@@ -46,8 +46,8 @@ fn every_frac(rt: &impl Print) -> io::Result<()> {
 
 fn every_raw(rt: &impl Print, frac: u32) -> io::Result<()> {
     for byte in 0..=255u8 {
-        line(rt, byte as u64, 8, frac)?;
-        line(rt, byte.cast_signed() as i64, 8, frac)?;
+        line(rt, u64::from(byte), 8, frac)?;
+        line(rt, i64::from(byte.cast_signed()), 8, frac)?;
     }
     Ok(())
 }
@@ -88,16 +88,8 @@ fn refusals(rt: &impl Print) -> io::Result<()> {
 // The bytes that were written, or the refusal.
 fn show(rt: &impl Print, answer: Answered<u64>, text: &[u8]) -> io::Result<()> {
     match answer {
-        Ok(Answer { raw, flag: _ }) => {
-            let n = raw as usize;
-            if n <= text.len() {
-                rt.write_all(&text[..n])?;
-            }
-        }
-        Err(refusal) => {
-            let number = refusal.number();
-            print!(rt; "refused {number}")?;
-        }
+        Ok(written) => rt.write_all(text.get(..written.raw as usize).unwrap_or(b""))?,
+        Err(refusal) => print!(rt; "refused {}", refusal.number())?,
     }
     rt.println("")
 }

@@ -44,9 +44,9 @@ fn number(p: Parsed, radix: u32) -> Probe {
     Probe {
         number: 0,
         radix,
-        neg: p.neg as u32,
+        neg: u32::from(p.neg),
         base: p.base,
-        down: p.down as u32,
+        down: u32::from(p.down),
         exp: p.exp,
         whole_from: p.whole.from,
         whole_to: p.whole.to,

@@ -23,7 +23,7 @@ fn line(
     magnitude: u64,
 ) -> io::Result<()> {
     rt.write_all(asked)?;
-    println!(rt; ": {number} {} {sign}{magnitude}", flag as u8)
+    println!(rt; ": {number} {} {sign}{magnitude}", u8::from(flag))
 }
 
 // The bytes that were written, and the answer.
