@@ -36,7 +36,9 @@ fn run_end(text: &[u8], from: usize, radix: u32, skip: bool) -> usize
     text.len()
 }
 
-// The run at `from`, which has no digits where no digit stands there.
+// The run at `from`, which has no digits where no digit stands there. `radix` and `skip` are scan's `Reader` taken
+// apart: with that type in a crate below, scan's steps are no methods of it, and six functions pass on text, place and
+// reader.
 pub fn run_at(text: &[u8], from: usize, radix: u32, skip: bool) -> Run
     requires { from ≤ length text.now }
     ensures { result ≡ run_at text.now from radix skip }
