@@ -1,6 +1,6 @@
 -- Bits dropped from a word: past 63 of them nothing but the sign is left, however many go. Assumes nothing.
-use Rattle.std.specs.Prelude.{◌≡◌, refl, cond, ℕ, ◌/◌, ◌^◌, ◌≤◌, ◌<◌, min, ltb, ℤ, pos, negsuc}
-use Rattle.std.proofs.Common.{sym, ap, ◌∙◌, arith, lt_of_lt_of_le, pow_mono, lt-ltb, le-ltb, SFits}
+use Rattle.std.specs.Prelude.{◌≡◌, ℕ, ◌/◌, ◌^◌, ◌≤◌, ◌<◌, min, ℤ, pos, negsuc}
+use Rattle.std.proofs.Common.{sym, ap, ◌∙◌, arith, lt_of_lt_of_le, pow_mono, SFits}
 use Rattle.std.proofs.Math.Nat.{min-eq_left, min-eq_right, div-eq_of_lt}
 use Rattle.std.proofs.Math.Decide.{dec_le}
 use Rattle.std.specs.Int.{w64}
@@ -19,10 +19,3 @@ sign-left a n h = go (dec_le n 63)
 pub signed-left : (z : ℤ) (n : ℕ) → SFits w64 z → floor z (2 ^ min n 63) ≡ floor z (2 ^ n)
 signed-left (pos a) n f = ap pos (sign-left a n f.sfits)
 signed-left (negsuc a) n f = ap negsuc (sign-left a n f.sfits)
-
-pub unsigned-left : (a n : ℕ) → a < 2 ^ 64 → cond (ltb n 64) (a / 2 ^ n) 0 ≡ a / 2 ^ n
-unsigned-left a n h = go (dec_le 64 n)
-  where
-    go : Dec (64 ≤ n) → cond (ltb n 64) (a / 2 ^ n) 0 ≡ a / 2 ^ n
-    go (yes l) = rw (le-ltb n 64 l) (sym (gone a 64 n h l))
-    go (no l) = rw (lt-ltb n 64 (omega arith)) refl

@@ -7,6 +7,7 @@ pub mod Order
 pub mod Powers
 pub mod Ring
 pub mod Rules
+pub mod Shifts
 pub mod Signed
 pub mod Tests
 pub mod Text

@@ -24,8 +24,7 @@ pub fn shr<R: Raw>(a: R, count: u32, width: u32, frac: u32, manner: Manner) -> A
     ensures { Shr R.kind a count width frac manner result }
 {
     let format = counted(count, width, frac, manner)?;
-    let x = exact::of(a);
-    let shifted = exact::floor(x.neg, 0, x.size, count % format.width);
+    let shifted = exact::floor(exact::of(a).into(), count % format.width);
     wrapped(shifted, count, format, manner)
 }
 

@@ -1,16 +1,15 @@
 -- The roundings on signs and magnitudes, as the code computes them: one law for each way out. Assumes nothing.
-use Rattle.std.specs.Prelude.{◌≡◌, refl, Bool, true, false, Option, Some, None, SomeIff, ℤ, negsuc, ◌-ℤ◌, ◌*ℤ◌}
-use Rattle.std.specs.Option.{unwrap_or}
+use Rattle.std.specs.Prelude.{◌≡◌, refl, Bool, true, false, ℤ, negsuc, ◌-ℤ◌, ◌*ℤ◌}
 use Rattle.std.specs.declared.cmp.Ordering.{Ordering}
 use Rattle.std.specs.declared.cmp.Ordering.TheVariants.{Less, Equal, Greater}
 use Rattle.std.specs.Ordering.{MatchOrdering}
 use Rattle.std.proofs.Math.Path.{sym, ap}
-use Rattle.std.proofs.Common.{◌∙◌, lt_of_lt_of_le, lt_of_mul-lt-mul_right, pow_mono, pow_pos, eq-eqb, ne_eqb, lt-ltb, le-ltb}
+use Rattle.std.proofs.Common.{◌∙◌, lt_of_mul-lt-mul_right, pow_pos, eq-eqb, ne_eqb, lt-ltb, le-ltb}
 use Prim.Native.Nat.{ℕ, zero, suc, ◌+◌, ◌*◌, ◌-◌, ◌/◌, ◌%◌, ◌^◌, ◌≤◌, ◌<◌}
 use native.Mathlib.Omega.{arith}
 use native.Mathlib.Nat.{mul-div_cancel, mul-mod_left}
 use lib.Arith.{mod-mul}
-use Rattle.std.proofs.Math.Nat.{div-add-mod', div-eq_of_lt, eq_of_mul-eq-mul_right, mod-lt, zero-div, zero-mod}
+use Rattle.std.proofs.Math.Nat.{div-add-mod', eq_of_mul-eq-mul_right, mod-lt, zero-div, zero-mod}
 use Rattle.std.proofs.Math.IntN.{pos, neg_ℤ}
 use Rattle.laws.specs.Diff.{sub_out, add-out, up_neg, dn-neg}
 use Rattle.laws.specs.Floor.{floor, floor-shr_z}
@@ -27,24 +26,13 @@ use Rattle.units.specs.Meaning.{nearest_away, by_size, floor_to, int_part, frac_
 pub frac_word : {w f : ℕ} → is_width w ≡ true → f ≤ w → f ≤ 64
 frac_word {w} h l = omega (arith, (width-bounds w h).1)
 
--- ---- words: by 64 places and more nothing is left of the quotient, and of the rest where it stands in the high bits
-pub shifted : (a f : ℕ) (o : Option ℕ) {r : ℕ} → a < 2 ^ 64 → SomeIff o (f < 64) (a / 2 ^ f) → r ≡ unwrap_or o 0 → r ≡ a / 2 ^ f
-shifted a f (Some v) h s e = e ∙ s.1
-shifted a f None h s e =
-    let l : 64 ≤ f = omega (arith, s) in
-    e ∙ sym (div-eq_of_lt (lt_of_lt_of_le h (pow_mono {i = 64} {j = f} l)))
-
-pub spread : (a f : ℕ) (o : Option ℕ) {r : ℕ} → f ≤ 64 → SomeIff o (64 - f < 64) (a * 2 ^ (64 - f) % 2 ^ 64) → r ≡ unwrap_or o 0
-    → r ≡ a % 2 ^ f * 2 ^ (64 - f)
-spread a f (Some v) l s e =
+-- ---- words: the rest where it stands in the high bits
+pub spread : (a f : ℕ) → f ≤ 64 → a * 2 ^ (64 - f) % 2 ^ 64 ≡ a % 2 ^ f * 2 ^ (64 - f)
+spread a f l =
     let k = 2 ^ (64 - f) in
     let whole : 2 ^ 64 ≡ 2 ^ f * k = power-sub f 64 l ∙ omega arith in
     let parts = mod-mul (a * k) {m = 2 ^ f} {c = k} (pow_pos f) (pow_pos (64 - f)) in
-    e ∙ s.1 ∙ ap (λ (n : ℕ). a * k % n) whole ∙ parts
-    ∙ omega (arith, mul-mod_left a k, ap (λ (n : ℕ). n % 2 ^ f * k) (mul-div_cancel a (pow_pos (64 - f))))
-spread a f None l s e =
-    let none : f ≡ 0 = omega (arith, s) in
-    e ∙ rw none (omega arith)
+    ap (λ (n : ℕ). a * k % n) whole ∙ parts ∙ omega (arith, mul-mod_left a k, ap (λ (n : ℕ). n % 2 ^ f * k) (mul-div_cancel a (pow_pos (64 - f))))
 
 -- beside half of m, the same as beside half of 2^64 when both are taken k times
 pub beside : (m k r : ℕ) (o : Ordering) → m * k ≡ 2 ^ 64 → MatchOrdering o (r * k < 2 ^ 63) (r * k ≡ 2 ^ 63) (2 ^ 63 < r * k)

@@ -138,7 +138,7 @@ fn beside_half(size: u64, format: Format) -> Ordering
     ensures { MatchOrdering result (size % 2 ^ format.frac * 2 < 2 ^ format.frac)
         (size % 2 ^ format.frac * 2 ≡ 2 ^ format.frac) (2 ^ format.frac < size % 2 ^ format.frac * 2) }
 {
-    let rest = size.checked_shl(64 - format.frac).unwrap_or(0);
+    let rest = size.unbounded_shl(64 - format.frac);
     rest.cmp(&HALF)
 }
 
@@ -146,5 +146,5 @@ fn beside_half(size: u64, format: Format) -> Ordering
 fn quotient(size: u64, frac: u32) -> u64
     ensures { result ≡ size / 2 ^ frac }
 {
-    size.checked_shr(frac).unwrap_or(0)
+    size.unbounded_shr(frac)
 }

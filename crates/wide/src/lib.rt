@@ -97,22 +97,14 @@ pub fn div(x: Wide, d: u64) -> Quotient
 pub fn shl(x: Wide, k: u32) -> Wide
     ensures { ShiftedLeft x k result }
 {
-    if k < 128 {
-        (u128::from(x) << k).into()
-    } else {
-        Wide { high: 0, low: 0 }
-    }
+    u128::from(x).unbounded_shl(k).into()
 }
 
 // x / 2^k, for every k.
 pub fn shr(x: Wide, k: u32) -> Wide
     ensures { ShiftedRight x k result }
 {
-    if k < 128 {
-        (u128::from(x) >> k).into()
-    } else {
-        Wide { high: 0, low: 0 }
-    }
+    u128::from(x).unbounded_shr(k).into()
 }
 
 // x * 2^k in one word, where a word holds it: a shift that loses nothing is a product.

@@ -4,7 +4,7 @@ use Rattle.std.proofs.Common.{arith, ℕ, ℤ, ◌^◌, ◌%◌, ◌∙◌}
 use Rattle.laws.specs.Floor.{floor}
 use Rattle.format.specs.Answer.{exit-answered}
 use Rattle.format.specs.Fault.{width-bounds}
-use Rattle.exact.specs.Signs.{via, one_word}
+use Rattle.exact.specs.Signs.{via}
 use Rattle.shift.specs.Settled.{shifted}
 use Rattle.shift.proofs.shr.Goals as goal
 
@@ -18,6 +18,5 @@ nonzero_rem-count g c = omega (arith, width-bounds _ c.in_ok-format.format.one_o
 pub returns : goal.returns
 returns g c =
     let a = c.args in
-    let x = c.of-x.result in
     shifted g.R.Raw.kind a.manner a.count (λ (w : ℕ). floor (g.R.Raw.kind.number_of a.a) (2 ^ (a.count % w))) c.in_ok-format.ensures.ok
-    (via (λ (z : ℤ). floor z (2 ^ (a.count % c.in_ok-format.format.width))) (one_word x.neg x.size ∙ c.of-x.ensures) c.floor-shifted.ensures) c.wrapped.ensures
+    (via (λ (z : ℤ). floor z (2 ^ (a.count % c.in_ok-format.format.width))) (c.into.ensures ∙ c.of.ensures) c.floor-shifted.ensures) c.wrapped.ensures

@@ -1,7 +1,9 @@
--- `wide::shl` meets its contract: from 128 places on no bit is left (`Shifts`). Assumes nothing.
-use Rattle.wide.specs.Meaning.{value_of}
-use Rattle.wide.proofs.Shifts.{left-none}
+-- `wide::shl` meets its contract: the shift of the number, by 128 places and more too. Assumes nothing.
+use Rattle.std.proofs.Common.{◌∙◌, ap, ℕ, ◌*◌, ◌%◌, ◌^◌}
+use Rattle.laws.specs.Shifts.{left}
 use Rattle.wide.proofs.shl.Goals as goal
 
-pub returns-else-k-lt128 : goal.returns-else-k-lt128
-returns-else-k-lt128 c = left-none (value_of c.args.x) c.args.k c.if-k-lt128.false
+pub returns : goal.returns
+returns c =
+    c.into.ensures ∙ c.unbounded_shl.ensures ∙ left 128 c.from.result c.args.k
+    ∙ ap (λ (n : ℕ). n * 2 ^ c.args.k % 2 ^ 128) c.from.ensures

@@ -1,2 +1,0 @@
--- Laws on plain numbers that the proofs of the functions cite.
-mod Shifts
