@@ -1,5 +1,7 @@
-// Numbers of up to 128 bits as two words of 64: what S does with `u128` and src/int256.rs, at the width that reading,
-// arithmetic and conversion need. Inner functions: the crates above meet what they require.
+// Numbers of up to 128 bits as two words of 64, at the width that reading, arithmetic and conversion need (S: `u128` and
+// src/int256.rs). Two words and no `u128`, since document 01 asks for pairs of words, C hands a number over as two
+// (`tq_settle`), and the theorems of specs/ speak of them (`same-value`); what is computed is computed on a `u128`.
+// Inner functions: the crates above meet what they require.
 #![tactic(auto)]
 
 ghost use Rattle.std.specs.Prelude.{◌≡◌, ◌+◌, ◌*◌, ◌^◌, ◌<◌, ◌≤◌};
@@ -20,6 +22,7 @@ pub struct Quotient {
     pub rest: u64,
 }
 
+// A word.
 impl From<u64> for Wide {
     ghost from_gives = { λ low x. value_of x ≡ low };
 
@@ -28,6 +31,7 @@ impl From<u64> for Wide {
     }
 }
 
+// Both ways between the two words and the number that they stand for.
 impl From<u128> for Wide {
     ghost from_gives = { λ n x. value_of x ≡ n };
 
@@ -80,11 +84,17 @@ pub fn less(x: Wide, y: Wide) -> bool
     u128::from(x) < u128::from(y)
 }
 
-// x / d and x % d.
+// x / d and x % d. One machine division where x is one word: that of 128 bits is a call, and takes twice the time.
 pub fn div(x: Wide, d: u64) -> Quotient
     requires { 0 < d }
     ensures { Divided x d result }
 {
+    if x.high == 0 {
+        return Quotient {
+            quotient: (x.low / d).into(),
+            rest: x.low % d,
+        };
+    }
     let n = u128::from(x);
     let by = u128::from(d);
     Quotient {
