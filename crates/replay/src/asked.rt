@@ -4,8 +4,8 @@ use crate::line::{Line, SIGNED};
 use crate::{logarithm, reader};
 use format::Raw;
 
-// Whether the answer differs from the one that is stored; None of a comment, which stores none. Where no function is
-// asked, or of no sign, there is no answer.
+// Whether the answer differs from the one that is stored; None of a comment, which stores none. What asks no function,
+// or of a format neither unsigned nor signed, has no answer, and so differs.
 pub(crate) fn differs(line: &Line) -> Option<bool> {
     match line.kind {
         Kind::Comment => None,

@@ -10,7 +10,7 @@ const VALUE: usize = 4;
 
 const RAW: usize = 5;
 
-// A raw that is no signed word has no answer. Of an unsigned one the magnitude is asked, whatever its sign.
+// A signed raw that is no word has no answer. Of an unsigned one a sign is passed over.
 pub(crate) fn log10<R: Raw>(line: &Line) -> bool {
     let width = line.numbers[WIDTH].small();
     let frac = line.numbers[FRAC].small();
