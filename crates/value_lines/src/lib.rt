@@ -8,7 +8,7 @@ ghost use Rattle.value_lines.specs.Store.{Entered, AllEntered};
 
 mod line;
 
-const LINE_FEED: u8 = 10;
+const LINE_FEED: u8 = b'\n';
 
 // How many value lines there are, refused ones too.
 pub fn count(file: &[u8]) -> usize
@@ -59,6 +59,7 @@ pub fn store(file: &[u8], lines: &mut [u32], raws: &mut [i16], answers: &mut [u3
         answers.old lines.new raws.new answers.new }
 {
     let mut n: usize = 0;
+    // the number of a line goes up from 1 in 32 bits, as C has it; `enumerate` would count from 0 as a usize
     let mut number: u32 = 0;
     // a line more, an empty one, where LF ends the file: it holds no value
     for line in file.split(|b| *b == LINE_FEED) {

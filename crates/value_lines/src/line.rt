@@ -5,7 +5,7 @@ ghost use Rattle.value_lines.specs.Literal.{line_value};
 
 use format::Refusal;
 
-const COMMENT: u8 = 35;
+const COMMENT: u8 = b'#';
 
 // I1F15
 const WIDTH: u32 = 16;
