@@ -15,11 +15,7 @@ pub(crate) fn log10<R: Raw>(line: &Line) -> bool {
     let width = line.numbers[WIDTH].small();
     let frac = line.numbers[FRAC].small();
     let raw = line.numbers[RAW];
-    let x = Exact {
-        neg: R::signed() && raw.below,
-        high: 0,
-        low: raw.size,
-    };
+    let x = Exact::new(R::signed() && raw.below, raw.size.into());
     match format::settle::<R>(x, 64, 0, Manner::Strict) {
         Ok(word) => answer::differs(stored(line), log10::log10(word.raw, width, frac)),
         Err(_) => true,

@@ -12,12 +12,20 @@ ghost use Rattle.std.specs.Prelude.{◌≤◌, length};
 
 use filter::TAPS;
 use fitting::FileRefusal;
+use fitting_list::Entry;
 use std::io::{ErrorKind, Read};
 use std::rt::Files;
 use std::{fs, io};
 
 // Longer than the longest file, so that a file too long is refused and not cut.
 const ROOM: usize = 65536;
+
+// A place of the list before the file is read.
+const NONE: Entry = Entry {
+    line: 0,
+    raw: 0,
+    answer: 0,
+};
 
 // Reads the file of that name and prints the report.
 pub fn file(rt: &(impl Files + Print + Eprint), name: &[u8]) -> io::Result<()> {
@@ -89,20 +97,21 @@ fn fail(rt: &impl Eprint, name: &[u8], error: io::Error) {
 
 // The report of a file's bytes.
 pub fn bytes(rt: &impl Print, file: &[u8]) -> io::Result<()> {
-    let mut lines = [0u32; TAPS];
-    let mut raws = [0i16; TAPS];
-    let mut answers = [0u32; TAPS];
+    let mut list = [NONE; TAPS];
     let mut taps = [0i16; TAPS];
-    match fitting::read(file, &mut lines, &mut raws, &mut answers, &mut taps) {
-        Ok(values) => good(rt, &lines, &taps[..TAPS.min(values as usize)]),
+    match fitting_list::read_list(file, &mut list, &mut taps) {
+        Ok(values) => {
+            let n = TAPS.min(values as usize);
+            good(rt, &list[..n], &taps[..n])
+        }
         Err(FileRefusal::Whole(refusal)) => refusal::whole(rt, refusal),
-        Err(FileRefusal::Line { .. }) => refusal::lines(rt, file, &lines, &answers),
+        Err(FileRefusal::Line { .. }) => refusal::lines(rt, file, &list),
     }
 }
 
-// Every tap, and the verdict on all of them.
-fn good(rt: &impl Print, lines: &[u32], taps: &[i16]) -> io::Result<()> {
-    taps::show(rt, lines, taps)?;
+// Every tap with its line, and the verdict on all of them.
+fn good(rt: &impl Print, list: &[Entry], taps: &[i16]) -> io::Result<()> {
+    taps::show(rt, list)?;
     verdict::show(rt, taps)?;
     rt.println("ok")
 }

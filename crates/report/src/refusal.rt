@@ -1,5 +1,6 @@
 // What is wrong: the number of document 01's table, what it means, where, and what to do. The last line is `refused`.
 use super::{hint, out};
+use fitting_list::Entry;
 use format::Refusal;
 use std::io;
 
@@ -40,25 +41,21 @@ fn file_fault(refusal: Refusal) -> &'static str {
 }
 
 // Every refused line: its text, its own answer, and what to write instead.
-pub(crate) fn lines(
-    rt: &impl Print,
-    file: &[u8],
-    lines: &[u32],
-    answers: &[u32],
-) -> io::Result<()> {
+pub(crate) fn lines(rt: &impl Print, file: &[u8], list: &[Entry]) -> io::Result<()> {
     rt.println("refused 42: these lines are not numbers of the format")?;
-    for (number, inner) in lines.iter().zip(answers).filter(|(_, inner)| **inner != 0) {
-        line(rt, file, *number, *inner)?;
+    for entry in list.iter().filter(|entry| entry.answer != 0) {
+        line(rt, file, *entry)?;
     }
     end(rt)
 }
 
-fn line(rt: &impl Print, file: &[u8], number: u32, inner: u32) -> io::Result<()> {
-    let text = nth(file, number);
-    print!(rt; "line {number}: ")?;
+fn line(rt: &impl Print, file: &[u8], entry: Entry) -> io::Result<()> {
+    let Entry { line, answer, .. } = entry;
+    let text = nth(file, line);
+    print!(rt; "line {line}: ")?;
     out::quoted(rt, text)?;
-    println!(rt; "\nanswer {inner}: {}", hint::meaning(inner))?;
-    println!(rt; "write: {}", hint::instead(text, inner))
+    println!(rt; "\nanswer {answer}: {}", hint::meaning(answer))?;
+    println!(rt; "write: {}", hint::instead(text, answer))
 }
 
 // The line with that number, from 1, without its end.

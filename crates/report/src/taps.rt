@@ -1,15 +1,16 @@
 // The taps, each with the line that it stands on; and samples.
 use super::out;
+use fitting_list::Entry;
 use std::io;
 
 const WIDTH: u32 = 16;
 
 const FRAC: u32 = 15;
 
-pub(crate) fn show(rt: &impl Print, lines: &[u32], taps: &[i16]) -> io::Result<()> {
-    for (i, (raw, line)) in taps.iter().zip(lines).enumerate() {
-        print!(rt; "tap {} line {line}", i + 1)?;
-        level(rt, *raw)?;
+pub(crate) fn show(rt: &impl Print, list: &[Entry]) -> io::Result<()> {
+    for (i, entry) in list.iter().enumerate() {
+        print!(rt; "tap {} line {}", i + 1, entry.line)?;
+        level(rt, entry.raw)?;
     }
     Ok(())
 }
