@@ -1,15 +1,13 @@
 -- The operations on signs and magnitudes, and that each is the operation on the numbers they stand for. Each law goes by the
 -- signs. Assumes nothing.
-use Rattle.std.specs.Prelude.{◌≡◌, refl, Bool, true, false, not, ℕ, zero, suc, ◌+◌, ◌*◌, ◌-◌, ◌/◌, ◌%◌, ◌^◌, ◌≤◌, ◌<◌, ltb, ℤ, pos, negsuc, neg_ℤ, nat_abs, ◌+ℤ◌, ◌-ℤ◌, ◌*ℤ◌}
-use Rattle.std.proofs.Common.{sym, ap, ap₂, ◌∙◌, true≢false, arith, add-one, lt_of_lt_of_le, lt_of_le_of_lt, div-le_self, pow_mono, shl_exact, le-ltb, ltb-true, ltb-false, SFits, to_z, of_z, to_z-of_z}
+use Rattle.std.specs.Prelude.{◌≡◌, refl, Bool, true, false, not, ℕ, zero, suc, ◌+◌, ◌*◌, ◌-◌, ◌/◌, ◌%◌, ◌^◌, ◌≤◌, ◌<◌, ltb, ℤ, pos, negsuc, neg_ℤ, nat_abs, ◌+ℤ◌, ◌*ℤ◌}
+use Rattle.std.proofs.Common.{sym, ap, ap₂, ◌∙◌, true≢false, arith, add-one, lt_of_lt_of_le, lt_of_le_of_lt, div-le_self, pow_mono, shl_exact, le-ltb, ltb-true, ltb-false}
 use Rattle.std.specs.Bool.{beq}
 use Rattle.std.proofs.lemmas.Bool.{false≢true}
 use Rattle.std.proofs.Math.Nat.{zero-div, zero-mod}
 use Rattle.std.proofs.Math.Arith.{digits_lt}
 use Rattle.std.proofs.Math.IntN.{+ℤ_comm, neg_ℤ-neg_ℤ}
 use Rattle.std.specs.Int.Signed.{lt_z, quot_z, rem_z}
-use Rattle.std.specs.Int.{w64}
-use Rattle.laws.specs.Bound.{abs-add, abs-mul-le, abs-sfits}
 use Rattle.laws.specs.Diff.{add-out, eq-in, up-mul, dn-mul, up_neg, dn-neg}
 use Rattle.laws.specs.Floor.{floor}
 use Rattle.laws.specs.Signed.{signed as kit}
@@ -137,28 +135,6 @@ remainder-sign n m a b e = ap (with_sign n) (e ∙ ap (λ (k : ℕ). a % k) (sym
     of true zero d = rw (zero-mod (nat_abs d))
     of true (suc a) d = refl
     of false a d = refl
-
--- a sum of magnitudes below 2^62 is a signed word, and so is a difference
-pub sum_fits : (n m : Bool) (s t : ℕ) {a b : ℤ} → with_sign n s ≡ a → with_sign m t ≡ b → s < 2 ^ 62 → t < 2 ^ 62 → SFits w64 (a +ℤ b)
-sum_fits n m s t {a} {b} p q h k = abs-sfits w64 (a +ℤ b) (omega (arith, abs-add a b, abs-sign n s, abs-sign m t, ap nat_abs p, ap nat_abs q))
-
-pub difference-fits : (n m : Bool) (s t : ℕ) {a b : ℤ} → with_sign n s ≡ a → with_sign m t ≡ b → s < 2 ^ 62 → t < 2 ^ 62 → SFits w64 (a -ℤ b)
-difference-fits n m s t p q h k = sum_fits n (not m) s t p (negated m t ∙ ap neg_ℤ q) h k
-
--- a product of magnitudes up to 2^31 is a signed word
-pub product-fits : (n m : Bool) (s t : ℕ) {a b : ℤ} → with_sign n s ≡ a → with_sign m t ≡ b → s ≤ 2 ^ 31 → t ≤ 2 ^ 31 → SFits w64 (a *ℤ b)
-product-fits n m s t {a} {b} p q h k =
-    let first : nat_abs a ≤ 2 ^ 31 = omega (arith, abs-sign n s, ap nat_abs p) in
-    let second : nat_abs b ≤ 2 ^ 31 = omega (arith, abs-sign m t, ap nat_abs q) in
-    abs-sfits w64 (a *ℤ b) (omega (arith, abs-mul-le a b first second))
-
--- what the machine reads back of a signed word that was shifted to the right is the floor
-shift_fits : (z : ℤ) (m : ℕ) → SFits w64 z → SFits w64 (floor z m)
-shift_fits (pos a) m f = record { sfits = lt_of_le_of_lt (div-le_self a m) f.sfits }
-shift_fits (negsuc a) m f = record { sfits = lt_of_le_of_lt (div-le_self a m) f.sfits }
-
-pub shifted_back : {z : ℤ} (m : ℕ) → SFits w64 z → to_z w64 (of_z w64 (floor (to_z w64 (of_z w64 z)) m)) ≡ floor z m
-shifted_back {z} m f = ap (λ (y : ℤ). to_z w64 (of_z w64 (floor y m))) (to_z-of_z f) ∙ to_z-of_z {w = w64} (shift_fits z m f)
 
 -- a result of one word
 pub one_word : (n : Bool) (a : ℕ) → with_sign n (0 * 2 ^ 64 + a) ≡ with_sign n a

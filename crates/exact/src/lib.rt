@@ -62,62 +62,11 @@ pub fn sum(x: Number, y: Number) -> Exact
     }
 }
 
-// Magnitudes below this add up, with any signs, to a signed word.
-const ADDS_UP: u64 = 0x4000_0000_0000_0000;
-
-// a + b, with no branch on a sign where a signed word holds it: every sum of the narrow widths.
-pub(crate) fn signed_sum(a: i64, b: i64) -> Exact
-    ensures { exact_of result ≡ a +ℤ b }
-{
-    let x = of(a);
-    let y = of(b);
-    if x.size < ADDS_UP {
-        if y.size < ADDS_UP {
-            return of(a + b).into();
-        }
-    }
-    sum(x, y)
-}
-
-// a - b, the same way.
-pub(crate) fn signed_difference(a: i64, b: i64) -> Exact
-    ensures { exact_of result ≡ a +ℤ neg_ℤ b }
-{
-    let x = of(a);
-    let y = of(b);
-    if x.size < ADDS_UP {
-        if y.size < ADDS_UP {
-            return of(a - b).into();
-        }
-    }
-    sum(x, negated(y))
-}
-
 // x * y / 2^frac, rounded toward minus infinity.
 pub fn product(x: Number, y: Number, frac: u32) -> Exact
     ensures { exact_of result ≡ floor_of (number_of x *ℤ number_of y) (2 ^ frac) }
 {
     floor(Exact::new(x.neg != y.neg, wide::mul(x.size, y.size)), frac)
-}
-
-// Magnitudes up to this, with any signs, have a signed word as their product.
-const MULTIPLIES: u64 = 0x8000_0000;
-
-// a * b / 2^frac, rounded toward minus infinity: one multiplication and one shift for numbers that fit 32
-// bits, so for every product of the narrow widths.
-pub(crate) fn signed_product(a: i64, b: i64, frac: u32) -> Exact
-    ensures { exact_of result ≡ floor_of (a *ℤ b) (2 ^ frac) }
-{
-    let x = of(a);
-    let y = of(b);
-    if x.size <= MULTIPLIES {
-        if y.size <= MULTIPLIES {
-            if frac < 64 {
-                return of((a * b) >> frac).into();
-            }
-        }
-    }
-    product(x, y, frac)
 }
 
 // x / 2^k, rounded toward minus infinity.

@@ -1,5 +1,5 @@
-// Sums, differences and products of raws. For signed ones a word holds those of the narrow widths, so that there is no
-// branch on a sign; the rest goes by sign and magnitude.
+// Sums, differences and products of raws. Those of signed ones are numbers of 128 bits with a sign, so that there is no
+// branch on the signs; those of unsigned ones go by sign and magnitude, since their products fill 128 bits.
 ghost use Rattle.std.specs.Prelude.{◌≡◌, ◌^◌, neg_ℤ, ◌+ℤ◌, ◌*ℤ◌};
 ghost use Rattle.laws.specs.Floor.{floor as floor_of};
 ghost use Rattle.exact.specs.Meaning.{exact_of};
@@ -20,15 +20,17 @@ pub trait Operand: Raw {
 
 impl Operand for i64 {
     fn sum(self, other: i64) -> Exact {
-        crate::signed_sum(self, other)
+        (i128::from(self) + i128::from(other)).into()
     }
 
     fn difference(self, other: i64) -> Exact {
-        crate::signed_difference(self, other)
+        (i128::from(self) - i128::from(other)).into()
     }
 
     fn product(self, other: i64, frac: u32) -> Exact {
-        crate::signed_product(self, other, frac)
+        (i128::from(self) * i128::from(other))
+            .unbounded_shr(frac)
+            .into()
     }
 }
 

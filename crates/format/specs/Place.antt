@@ -2,9 +2,10 @@
 -- what the meaning says. Assumes nothing.
 use Rattle.std.specs.Prelude.{◌≡◌, Option, Some, None, Bool, cond, ℕ, ◌+◌, ◌*◌, ◌-◌, ◌/◌, ◌%◌, ◌^◌, ◌≤◌, ◌<◌, leb, ltb, ℤ, ◌+ℤ◌, ◌*ℤ◌}
 use Rattle.std.proofs.Math.Path.{refl, ap}
-use Rattle.std.proofs.Common.{sym, add-one, ◌∙◌, div-add-mod', arith, pow_pos, SFits}
+use Rattle.std.proofs.Common.{sym, add-one, ◌∙◌, div-add-mod', mod-eq_of_lt, arith, pow_pos, ◌⊎◌, inl, inr}
 use Rattle.std.proofs.Math.Bool.{true, false}
-use Rattle.std.proofs.Math.Nat.{mod-lt}
+use Rattle.std.proofs.Math.Nat.{mod-lt, add-mod, add-mod_right, zero-mod}
+use Rattle.std.proofs.Math.Pow.{mod-mod-pow}
 use Rattle.std.proofs.Math.Dec.{eqb}
 use Rattle.std.proofs.Math.Decide.{dec_le}
 use Rattle.std.specs.Int.Signed.{lt_z}
@@ -12,10 +13,8 @@ use Rattle.std.specs.Prelude.{unsigned_abs}
 use Rattle.std.proofs.Math.IntN.{pos, negsuc, neg_ℤ}
 use Rattle.std.specs.Int.Bits.{bit_and}
 use Rattle.std.proofs.lemmas.Nat.{and_mask}
-use Rattle.std.specs.Int.{w64}
 use borrow.Author.Tests.{lt-ltb, le-ltb, eq-eqb, ne_eqb, le-leb, lt-leb, eqb-true, eqb-false, ltb-true, ltb-false}
 use Rattle.laws.specs.Diff.{up, dn, up_neg, dn-neg, add-out}
-use Rattle.laws.specs.Bound.{sfits-out}
 use Rattle.laws.specs.Order.{mul-out}
 use Rattle.laws.specs.Powers.{power-sub}
 use Rattle.laws.specs.Ring.{*ℤ-distribʳ}
@@ -138,23 +137,36 @@ resigned-wraps w u x some e = go (ltb u (2 ^ (w - 1))) refl
           );
         })
 
+-- ---- two rests of m that add up to a whole number of m
+up-to : (m a b : ℕ) → a < m → b < m → (b + a) % m ≡ 0 → (b + a ≡ 0) ⊎ (b + a ≡ m)
+up-to m a b h k z = go (dec_le m (b + a))
+  where
+    go : Dec (m ≤ b + a) → (b + a ≡ 0) ⊎ (b + a ≡ m)
+    go (no l) = inl (sym (mod-eq_of_lt (omega arith)) ∙ z)
+    go (yes l) =
+        let back : b + a ≡ b + a - m + m = omega arith in
+        let rest : b + a - m ≡ 0 = sym (mod-eq_of_lt (omega arith)) ∙ sym (add-mod_right (b + a - m) m) ∙ ap (λ (k : ℕ). k % m) (sym back) ∙ z in
+        inr (omega arith)
+
 -- ---- the residue as the code finds it, with `all` the mask of W bits
 module _ (low w all : ℕ) (mask : all ≡ 2 ^ w - 1) where
   pub masked : bit_and low all ≡ low % 2 ^ w
   masked = ap (bit_and low) mask ∙ and_mask low w
 
-  pub residue-none : {neg : Bool} → neg ≡ true → bit_and low all ≡ 0 → 0 ≡ residue neg low w
+  -- below 0: of the word that makes the magnitude up to 2^64
+  pub residue-turned : {neg : Bool} (n : ℕ) → neg ≡ true → (n + low) % 2 ^ 64 ≡ 0 → w ≤ 64 → bit_and n all ≡ residue neg low w
   unfolding residue
-  residue-none t e = simp (t, eq-eqb _ _ (sym masked ∙ e))
-
-  pub residue-rest : {neg : Bool} → neg ≡ true → (bit_and low all ≡ 0 → ⊥) → all - (bit_and low all - 1) ≡ residue neg low w
-  unfolding residue
-  residue-rest t e = simp (t, ne_eqb _ _ (λ z. e (masked ∙ z))) (omega (arith, mask, masked, e, mod-lt low (pow_pos w)))
-
-  pub residue-same : {neg : Bool} → (neg ≡ true → bit_and low all ≡ 0) → bit_and low all ≡ residue neg low w
-  unfolding residue
-  residue-same {neg = true} z = let e = z refl in simp (eq-eqb _ _ (sym masked ∙ e)) e
-  residue-same {neg = false} z = masked
+  residue-turned {neg = neg} n t z h =
+      let m = 2 ^ w in
+      let word : 64 - w + w ≡ 64 = omega arith in
+      let whole : (n % m + low % m) % m ≡ 0 =
+      sym (add-mod n low m) ∙ sym (mod-mod-pow (n + low) (64 - w) w) ∙ ap (λ (k : ℕ). (n + low) % 2 ^ k % m) word
+      ∙ ap (λ (k : ℕ). k % m) z ∙ zero-mod m in
+      ap (bit_and n) mask ∙ and_mask n w ∙ go (up-to m (low % m) (n % m) (mod-lt low (pow_pos w)) (mod-lt n (pow_pos w)) whole)
+    where
+      go : (n % 2 ^ w + low % 2 ^ w ≡ 0) ⊎ (n % 2 ^ w + low % 2 ^ w ≡ 2 ^ w) → n % 2 ^ w ≡ residue neg low w
+      go (inl e) = simp (t, eq-eqb (low % 2 ^ w) 0 (omega arith)) (omega arith)
+      go (inr e) = simp (t, ne_eqb (low % 2 ^ w) 0 (λ z. absurd (omega (arith, z, e, mod-lt n (pow_pos w))))) (omega arith)
 
   pub residue-low : {neg : Bool} → neg ≡ false → bit_and low all ≡ residue neg low w
   unfolding residue
@@ -177,26 +189,7 @@ module _ (high low end : ℕ) where
       far (yes z) = omega arith
       far (no z) = let k : high ≡ 0 = omega arith in let b = h k in omega arith
 
--- ---- a sign and a magnitude of one word, and a residue, as the code makes them signed
-module _ {neg : Bool} (m : ℕ) where
-  pub sign_zero : neg ≡ true → m ≡ 0 → pos 0 ≡ with_sign neg m
-  unfolding with_sign
-  sign_zero t e = rw (t, e)
-
-  pub sign_below : neg ≡ true → (m ≡ 0 → ⊥) → {r : ℤ} → r ≡ negsuc (m - 1) → r ≡ with_sign neg m
-  unfolding with_sign
-  sign_below t e q = rw t (omega (kit, q, e, up_neg (pos m), dn-neg (pos m)))
-
-  pub sign_above : neg ≡ false → {r : ℤ} → r ≡ pos m → r ≡ with_sign neg m
-  unfolding with_sign
-  sign_above t q = rw t q
-
-  pub sign-below-fits : neg ≡ true → SFits w64 (with_sign neg m) → m ≤ 2 ^ 63
-  sign-below-fits t f = omega (arith, sfits-out (rw t at f), sign-out true m)
-
-  pub sign-above-fits : neg ≡ false → SFits w64 (with_sign neg m) → m < 2 ^ 63
-  sign-above-fits t f = omega (arith, sfits-out (rw t at f), sign-out false m)
-
+-- ---- a residue, as the code makes it signed
 -- what the code turns of the upper half, with `t` the highest residue
 pub turned : (u w : ℕ) {t : ℕ} → t ≡ 2 ^ w - 1 → neg_ℤ (pos (t - u + 1)) ≡ negsuc (2 ^ w - 1 - u)
 turned u w {t} e = ap (λ (k : ℕ). neg_ℤ (pos k)) (add-one (t - u)) ∙ ap (λ (k : ℕ). negsuc (k - u)) e

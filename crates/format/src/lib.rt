@@ -1,7 +1,7 @@
 // Formats, manners and answers, and `settle`: an exact number into a format in a manner.
 #![tactic(auto)]
 
-ghost use Rattle.std.specs.Prelude.{◌≡◌, true, ◌+◌, ◌*◌, ◌^◌, ◌≤◌};
+ghost use Rattle.std.specs.Prelude.{◌≡◌, true, false, ◌+◌, ◌*◌, ◌^◌, ◌≤◌};
 ghost use Rattle.wide.specs.Meaning.{value_of};
 ghost use Rattle.format.specs.Meaning.{settle, exact, answered, with_sign, wrap};
 ghost use Rattle.format.specs.Promise.{IsWidth, Check, Settle};
@@ -32,6 +32,15 @@ pub struct Answer<R> {
     pub flag: bool,
 }
 
+// A raw with the flag clear.
+impl<R> From<R> for Answer<R> {
+    ghost from_gives = { λ raw answer. answer ≡ record { raw = raw; flag = false } };
+
+    fn from(raw: R) -> Answer<R> {
+        Answer { raw, flag: false }
+    }
+}
+
 // What a public function answers: an answer, or the refusal.
 pub type Answered<R> = Result<Answer<R>, Refusal>;
 
@@ -41,6 +50,15 @@ pub struct Exact {
     pub neg: bool,
     pub high: u64,
     pub low: u64,
+}
+
+// A number of 128 bits with its sign.
+impl From<i128> for Exact {
+    ghost from_gives = { λ n x. exact x.neg x.high x.low ≡ n };
+
+    fn from(n: i128) -> Exact {
+        Exact::new(n < 0, n.unsigned_abs().into())
+    }
 }
 
 impl Exact {
@@ -106,22 +124,13 @@ pub fn fit<R: Raw>(x: Exact, format: Format, manner: Manner) -> Answered<R>
     match manner {
         Manner::Strict => {
             let size = within.ok_or(Refusal::Overflow)?;
-            Ok(Answer {
-                raw: R::with_sign(x.neg, size, format),
-                flag: false,
-            })
+            Ok(R::with_sign(x.neg, size, format).into())
         }
         Manner::Saturating => {
             let size = within.unwrap_or(end);
-            Ok(Answer {
-                raw: R::with_sign(x.neg, size, format),
-                flag: false,
-            })
+            Ok(R::with_sign(x.neg, size, format).into())
         }
-        Manner::Wrapping => Ok(Answer {
-            raw: wrapped(x, format),
-            flag: false,
-        }),
+        Manner::Wrapping => Ok(wrapped::<R>(x, format).into()),
         Manner::Overflowing => Ok(Answer {
             raw: wrapped(x, format),
             flag: within.is_none(),

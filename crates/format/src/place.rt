@@ -17,10 +17,9 @@ pub(crate) fn residue(neg: bool, low: u64, format: Format) -> u64
     ensures { result ≡ residue_of neg low format.width }
 {
     let all = format.top();
-    let bits = low & all;
-    if neg && bits != 0 {
-        all - (bits - 1)
+    if neg {
+        low.wrapping_neg() & all
     } else {
-        bits
+        low & all
     }
 }

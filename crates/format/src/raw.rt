@@ -103,16 +103,13 @@ impl Raw for i64 {
 }
 
 // A magnitude with its sign; so -2^63, which has no positive counterpart, is reached too.
+#[tactic(auto, unfolding(crate::specs::Meaning::with_sign))]
 pub fn with_sign(neg: bool, magnitude: u64) -> i64
     requires { SFits w64 (with_sign neg magnitude) }
     ensures { result ≡ with_sign neg magnitude }
 {
     if neg {
-        if magnitude == 0 {
-            0
-        } else {
-            -1 - (magnitude - 1) as i64
-        }
+        -i128::from(magnitude) as i64
     } else {
         magnitude as i64
     }

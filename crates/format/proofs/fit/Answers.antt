@@ -1,5 +1,5 @@
 -- `format::fit` meets its contract: what is within the limit is done or held, what the residue stands for is wrapped. Assumes nothing.
-use Rattle.std.proofs.Common.{arith, sym, ◌∙◌}
+use Rattle.std.proofs.Common.{arith, sym, ◌∙◌, Ok}
 use Rattle.std.proofs.Math.Path.{refl, ap}
 use Rattle.std.proofs.lemmas.Result.{err_from_is_err_and}
 use Rattle.format.specs.Meaning.{named}
@@ -30,7 +30,8 @@ returns-in_ok-size-in-Strict g c =
     let k = g.R.Raw.kind in
     let w = c.args.format.width in
     let x = c.args.x in
-    done-answered k
+    ap Ok c.into.ensures
+    ∙ done-answered k
     (at-manner k.sign w _ c.in-Strict.is
     (strict-done k.sign w x.neg x.high x.low c.end-end.ensures c.within-within.ensures c.in_ok-size-in-Strict.ensures.ok_part))
     c.with_sign.ensures
@@ -50,7 +51,8 @@ returns-in-Saturating g c =
     let w = c.args.format.width in
     let x = c.args.x in
     let h = held-of k.sign w x.neg x.high x.low c.end-end.ensures c.within-within.ensures c.unwrap_or-size.ensures in
-    done-answered k
+    ap Ok c.into-in-Saturating.ensures
+    ∙ done-answered k
     (at-manner k.sign w _ c.in-Saturating.is (saturating-done k.sign w x.neg x.high x.low c.end-end.ensures c.within-within.ensures h))
     c.with_sign-in-Saturating.ensures
 
@@ -58,7 +60,7 @@ pub returns-in-Wrapping : goal.returns-in-Wrapping
 returns-in-Wrapping g c =
     let k = g.R.Raw.kind in
     let w = c.args.format.width in
-    done-answered k (at-manner k.sign w _ c.in-Wrapping.is (wrapping-done k.sign w _ refl)) c.wrapped.ensures
+    ap Ok c.into-in-Wrapping.ensures ∙ done-answered k (at-manner k.sign w _ c.in-Wrapping.is (wrapping-done k.sign w _ refl)) c.wrapped.ensures
 
 pub returns-in-Overflowing : goal.returns-in-Overflowing
 returns-in-Overflowing g c =
