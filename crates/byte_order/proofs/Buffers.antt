@@ -1,15 +1,13 @@
 -- The answers of the byte functions: the low bits that a wrapped answer holds, a raw behind the refusals, and what a lent buffer holds
 -- after. Assumes nothing.
-use Rattle.std.specs.Prelude.{◌≡◌, refl, Bool, true, false, cond, ℕ, ◌/◌, ◌≤◌, eqb, leb, ℤ, pos, List, ◌++◌, length, drop, Ok, Err}
+use Rattle.std.specs.Prelude.{◌≡◌, refl, Bool, true, false, cond, ℕ, ◌/◌, ◌≤◌, eqb, leb, ℤ, pos, List, ◌++◌, length, drop, Ok}
 use Rattle.std.specs.Result.{IsErrAnd}
 use Rattle.std.proofs.Common.{ap, ap₂, ◌∙◌, arith}
 use Rattle.std.proofs.lemmas.List.{length-reverse}
 use borrow.Author.Tests.{eq-eqb, ne_eqb, leb-true, eqb-true}
-use Rattle.laws.specs.Diff.{up}
 use Rattle.format.specs.declared.Answer.{Answer}
-use Rattle.format.specs.declared.Manner.TheVariants.{Wrapping}
 use Rattle.format.specs.declared.refusal.Refusal.{Refusal}
-use Rattle.format.specs.Meaning.{Kind, unsigned_kind, unsigned, Answered, answered, fault_of, unless, settle, wrap, done, LetsThrough, Refuses}
+use Rattle.format.specs.Meaning.{Kind, unsigned_kind, Answered, answered, fault_of, unless, wrap, done, LetsThrough, Refuses}
 use Rattle.format.specs.Answer.{pass-answered, exit-answered}
 use Rattle.exact.specs.Meaning.{or_else}
 use Rattle.exact.specs.Refusals.{met}
@@ -17,23 +15,8 @@ use Rattle.byte_order.specs.Meaning.{low_bits, little_of, big_of, buffer_fault, 
 use Rattle.byte_order.specs.Promise.{Stored}
 use Rattle.byte_order.specs.Theorems.{bytes-length}
 
--- what an unsigned answer of the wrapping manner holds, and that it holds something
-module _ (w : ℕ) {x y : ℤ} {a : Answered ℕ} (e : x ≡ y) (q : a ≡ answered unsigned_kind (settle Wrapping unsigned w x)) where
-  pub low_of : {t : Answer ℕ} → a ≡ Ok t → t.raw ≡ low_bits w y
-  unfolding low_bits answered settle
-  low_of {t} p = let s : t.raw ≡ up (wrap unsigned w x) = cc in s ∙ ap (λ (z : ℤ). up (wrap unsigned w z)) e
-
-  pub low-some : {n : Refusal} → a ≡ Err n → ⊥
-  unfolding answered settle
-  low-some p = cc
-
--- one word, wrapped; and behind the refusals, in the format that they let through
+-- behind the refusals, in the format that they let through
 module _ {A : Type 0} (c : Kind A) where
-  pub word_wrapped : (w x : ℕ) {z : ℤ} {r : Answered A} → z ≡ pos x → r ≡ answered c (settle Wrapping c.sign w z)
-      → r ≡ answered c (done (wrap c.sign w (pos x)) false)
-  unfolding settle
-  word_wrapped w x e p = p ∙ ap (λ (z : ℤ). answered c (done (wrap c.sign w z) false)) e
-
   pub opened : {n w f v g x y : ℕ} {r : Answered A} → LetsThrough n w f v g → x ≡ y → r ≡ answered c (done (wrap c.sign v (pos x)) false)
       → r ≡ answered c (unless n (done (wrap c.sign w (pos y)) false))
   opened {n} {w} {y = y} o e p =

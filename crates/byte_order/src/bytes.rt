@@ -3,23 +3,20 @@ ghost use Rattle.std.specs.Prelude.{◌≡◌, ◌/◌, ◌≤◌, ◌++◌, fal
 ghost use Rattle.format.specs.Meaning.{answered, done, wrap};
 ghost use Rattle.byte_order.specs.Meaning.{le_bytes, from_le, from_be, low_bits};
 
-use format::{Answer, Answered, Format, Manner, Raw};
+use format::{Answer, Answered, Format, Raw};
 
-// The low W bits of a: the wrapping manner never refuses.
+// The low W bits of a
 pub(crate) fn low_bits<R: Raw>(a: R, format: Format) -> u64
     ensures { result ≡ low_bits format.width (R.kind.number_of a) }
 {
-    match format::fit::<u64>(exact::of(a).into(), format, Manner::Wrapping) {
-        Ok(low) => low.raw,
-        Err(_) => 0,
-    }
+    format::wrapped(exact::of(a).into(), format)
 }
 
 // The raw congruent to x.
 pub(crate) fn wrapped<R: Raw>(x: u64, format: Format) -> Answered<R>
     ensures { result ≡ answered R.kind (done (wrap R.kind.sign format.width (pos x)) false) }
 {
-    format::fit(exact::of(x).into(), format, Manner::Wrapping)
+    Ok(format::wrapped::<R>(exact::of(x).into(), format).into())
 }
 
 // The W / 8 low bytes of x in the other order.

@@ -93,7 +93,8 @@ fn floor_below(size: Wide, k: u32) -> Exact
     }
 }
 
-// A word times 2^k. A whole word is left over for the shift, so nothing is lost.
+// A word times 2^k. A whole word is left over for the shift, so nothing is lost. That k is at most a word stands in a
+// clause here and below, in no type: it is F of a format for a quotient, and a count modulo W for a shift.
 pub fn scaled(size: u64, k: u32) -> Wide
     requires { k ≤ 64 }
     ensures { value_of result ≡ size * 2 ^ k }
@@ -109,7 +110,9 @@ pub fn shifted_left(x: Number, k: u32) -> Exact
     Exact::new(x.neg, scaled(x.size, k))
 }
 
-// x * 2^frac / y, rounded toward zero.
+// x * 2^frac / y, rounded toward zero. That y is not 0 stands in a clause, here and where else something is divided by
+// it: callers know it of the raw (`arith::divided`) and take the raw apart in the call, so that a type for such a
+// divisor would be made there to be taken apart here.
 pub fn quotient(x: Number, y: Number, frac: u32) -> Exact
     requires { (0 < y.size) × (frac ≤ 64) }
     ensures { exact_of result ≡ quot_z (number_of x *ℤ pos (2 ^ frac)) (number_of y) }

@@ -44,7 +44,8 @@ impl<R> From<R> for Answer<R> {
 // What a public function answers: an answer, or the refusal.
 pub type Answered<R> = Result<Answer<R>, Refusal>;
 
-// A whole number before it is in a format: its sign, and its magnitude as two words.
+// A whole number before it is in a format: its sign, and its magnitude as two words. The words stand apart, and in no
+// `Wide`: C hands over three fields (`tq_settle_signed`), of which the promise `Settle` speaks.
 #[derive(Clone, Copy, Debug, PartialEq, Eq)]
 pub struct Exact {
     pub neg: bool,
@@ -138,7 +139,8 @@ pub fn fit<R: Raw>(x: Exact, format: Format, manner: Manner) -> Answered<R>
     }
 }
 
-fn wrapped<R: Raw>(x: Exact, format: Format) -> R
+// The raw of the format that is congruent to the number: what wrapping makes of it.
+pub fn wrapped<R: Raw>(x: Exact, format: Format) -> R
     ensures { result ≡ R.kind.raw_of (wrap R.kind.sign format.width (exact x.neg x.high x.low)) }
 {
     R::of_residue(place::residue(x.neg, x.low, format), format)

@@ -1,4 +1,5 @@
 // More arithmetic of the crate: the exact result in whole steps, then the manner of `format`.
+// A format comes as its two numbers: each entry refuses what is none.
 #![tactic(auto)]
 
 ghost use Rattle.further.specs.Promise.{Abs, Signum, RemEuclid, DivEuclid, MulAdd, Dist, Mean};

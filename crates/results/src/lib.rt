@@ -1,5 +1,5 @@
 // More exact results, once for both signs: abs, signum, Euclidean division, mul_add, dist, mean.
-// That a divisor is not 0 is asked as `exact::quotient` asks it: `arith::divided` says so of each.
+// That a divisor is not 0 is asked as `exact::quotient` asks it, which says why.
 #![tactic(auto)]
 
 ghost use Rattle.std.specs.Prelude.{◌≡◌, ◌+◌, ◌*◌, ◌^◌, ◌≤◌, ◌<◌, pos, nat_abs, ◌+ℤ◌, ◌-ℤ◌, ◌*ℤ◌};
@@ -66,7 +66,7 @@ pub fn mul_add(x: Number, y: Number, z: Number, frac: u32) -> Exact
 }
 
 // x + y: equal signs add, else the smaller is taken from the larger, whose sign stays.
-// Apart from `exact::sum`, of two words alone, which every addition takes and which asks for no room.
+// Apart from `exact::sum`, of one word each, which asks for no room: each sum of two raws would owe this clause.
 fn add(x: Exact, y: Number) -> Exact
     requires { x.high * 2 ^ 64 + x.low + 2 ^ 64 ≤ 2 ^ 128 }
     ensures { exact_of result ≡ exact_of x +ℤ number_of y }

@@ -1,25 +1,11 @@
 -- A shift: wrapped in the format that its refusals let through, with the flag of its count. Assumes nothing.
-use Rattle.std.specs.Prelude.{◌≡◌, Ok, Err, Bool, ℕ, ℤ}
+use Rattle.std.specs.Prelude.{◌≡◌, ℕ, ℤ}
 use Rattle.std.proofs.Common.{ap, ◌∙◌}
-use Rattle.format.specs.declared.Answer.{Answer}
-use Rattle.format.specs.declared.refusal.Refusal.{Refusal}
 use Rattle.format.specs.declared.Manner.{Manner}
-use Rattle.format.specs.declared.Manner.TheVariants.{Wrapping}
-use Rattle.format.specs.Meaning.{Kind, Answered, Outcome, unless, settle, wrap, done, answered, LetsThrough}
+use Rattle.format.specs.Meaning.{Kind, Answered, Outcome, unless, wrap, done, answered, LetsThrough}
 use Rattle.format.specs.Answer.{pass-answered}
 use Rattle.shift.specs.Meaning.{count_flag}
 use Rattle.shift.specs.Refusals.{shift_fault}
-
--- the wrapping manner refuses nothing, and its raw is the number's wrap, whatever the flag
-module _ {A : Type 0} (c : Kind A) (w : ℕ) (x : ℤ) where
-  pub wrapping-answers : {e : Refusal} → Err e ≡ answered c (settle Wrapping c.sign w x) → ⊥
-  unfolding settle answered
-  wrapping-answers h = cc
-
-  pub wrapping-raw : {a : Answer A} {f g : Bool} → Ok a ≡ answered c (settle Wrapping c.sign w x) → f ≡ g
-      → Ok (record { raw = a.raw; flag = f }) ≡ answered c (done (wrap c.sign w x) g)
-  unfolding settle answered
-  wrapping-raw h e = cc
 
 -- the number x that the code shifted, in the format that the refusals let through, is the meaning's y at the width
 module _ {A : Type 0} (c : Kind A) (k : Manner) (n : ℕ) (y : ℕ → ℤ) where

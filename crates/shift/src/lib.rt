@@ -1,5 +1,6 @@
 // Shifts of document 01, module 4: the raw times or over a power of two,
 // wrapped; the count alone is refused or flagged.
+// A format comes as its two numbers: each entry refuses what is none.
 #![tactic(auto)]
 
 ghost use Rattle.std.specs.Prelude.{◌≡◌, IfOk, IfErr};
@@ -49,10 +50,9 @@ fn wrapped<R: Raw>(x: Exact, count: u32, format: Format, manner: Manner) -> Answ
     ensures { result ≡ answered R.kind
         (done (wrap R.kind.sign format.width (exact x.neg x.high x.low)) (count_flag manner format.width count)) }
 {
-    let answer = format::fit(x, format, Manner::Wrapping)?;
     Ok(Answer {
+        raw: format::wrapped(x, format),
         flag: flagged(count, format, manner),
-        ..answer
     })
 }
 

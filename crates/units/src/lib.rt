@@ -44,7 +44,8 @@ pub fn round_ties_even(x: Number, format: Format) -> Exact
     in_steps(Number { size, ..x }, format)
 }
 
-// The integer part: x down, and 0 where there are no integer bits.
+// The integer part: x down, and 0 where there are no integer bits. By two numbers, and `frac` too: their promises speak
+// of every width up to 64, and a `Format` has one of four.
 pub fn int(x: Number, width: u32, frac: u32) -> Exact
     requires { (frac ≤ width) × (width ≤ 64) }
     ensures { exact_of result ≡ int_part width frac (number_of x) }

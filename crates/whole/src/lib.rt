@@ -1,4 +1,5 @@
 // Whole numbers of a format: a raw rounded to units of 2^F steps, and its two parts; then the manner of `format`.
+// A format comes as its two numbers: each entry refuses what is none.
 #![tactic(auto)]
 
 ghost use Rattle.std.specs.Prelude.{◌≡◌};
@@ -52,7 +53,7 @@ pub fn frac<R: Raw>(a: R, width: u32, frac: u32, manner: Manner) -> Answered<R>
     stepped(a, width, frac, manner, frac_in)
 }
 
-// The two parts, of a format: what `units` takes apart by any two numbers with F up to W up to 64.
+// The two parts by a `Format`, as `stepped` hands it over; those of `units` are promised of every width up to 64.
 fn int_in(x: Number, format: Format) -> Exact
     ensures { exact_of result ≡ int_part format.width format.frac (number_of x) }
 {

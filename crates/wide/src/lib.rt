@@ -1,7 +1,7 @@
-// Numbers of up to 128 bits as two words of 64, at the width that reading, arithmetic and conversion need (S: `u128` and
-// src/int256.rs). Two words and no `u128`, since document 01 asks for pairs of words, C hands a number over as two
-// (`tq_settle`), and the theorems of specs/ speak of them (`same-value`); what is computed is computed on a `u128`.
-// Inner functions: the crates above meet what they require.
+// Numbers of up to 128 bits as two words of 64, at the width that reading, arithmetic and conversion need (S: `u128`
+// and src/int256.rs). Two words and no `u128`, since document 01 asks for pairs of words, C hands a number over as two
+// (`tq_settle_signed`, `tq_settle_unsigned`), and the theorems of specs/ speak of them (`same-value`); what is computed
+// is computed on a `u128`. Inner functions: the crates above meet what they require.
 #![tactic(auto)]
 
 ghost use Rattle.std.specs.Prelude.{◌≡◌, ◌+◌, ◌*◌, ◌^◌, ◌<◌, ◌≤◌};
@@ -77,7 +77,8 @@ pub fn sub(x: Wide, y: Wide) -> Wide
     (u128::from(x) - u128::from(y)).into()
 }
 
-// Whether x is below y.
+// Whether x is below y. A derived order compares the two fields, and each caller would owe the lemma that this is the
+// order of the numbers.
 pub fn less(x: Wide, y: Wide) -> bool
     ensures { Less x y result }
 {

@@ -1,10 +1,10 @@
--- `byte_order::bytes::low_bits` meets its contract: wrapping leaves the low bits, and never refuses. Assumes nothing.
-use Rattle.std.proofs.Common.{◌∙◌}
-use Rattle.byte_order.proofs.Buffers.{low_of, low-some}
+-- `byte_order::bytes::low_bits` meets its contract: wrapping leaves the low bits. Assumes nothing.
+use Rattle.std.proofs.Common.{◌∙◌, ap, ℤ}
+use Rattle.laws.specs.Diff.{up}
+use Rattle.format.specs.Meaning.{unsigned, wrap}
+use Rattle.byte_order.specs.Meaning.{low_bits}
 use Rattle.byte_order.proofs.bytes.low_bits.Goals as goal
 
-pub returns-in-Ok : goal.returns-in-Ok
-returns-in-Ok g c = low_of c.args.format.width (c.into.ensures ∙ c.of.ensures) c.fit.ensures c.in-Ok.is
-
-pub returns-in-Err : goal.returns-in-Err
-returns-in-Err g c = absurd (low-some c.args.format.width (c.into.ensures ∙ c.of.ensures) c.fit.ensures c.in-Err.is)
+pub returns : goal.returns
+unfolding low_bits
+returns g c = c.wrapped.ensures ∙ ap (λ (z : ℤ). up (wrap unsigned c.args.format.width z)) (c.into.ensures ∙ c.of.ensures)
