@@ -43,8 +43,5 @@ pub(crate) fn store(bytes: &[u8], out: &mut [u8]) -> Answer<u64>
     ensures buffer { out.new ≡ bytes.now ++ drop (length bytes.now) out.old }
 {
     out[..bytes.len()].copy_from_slice(bytes);
-    Answer {
-        raw: bytes.len() as u64,
-        flag: false,
-    }
+    (bytes.len() as u64).into()
 }
