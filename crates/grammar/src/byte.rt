@@ -34,7 +34,7 @@ pub fn digit(b: u8, radix: u32) -> Option<u32>
     ensures { result ≡ digit radix b }
 {
     let d = digit_of(b);
-    if d < radix { Some(d) } else { None }
+    (d < radix).then_some(d)
 }
 
 #[tactic(auto, unfolding(crate::specs::Class::digit))]
