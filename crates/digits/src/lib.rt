@@ -1,5 +1,5 @@
 // Digit views (S's `DigitsUnds`): a view is a part of the lent text with no `_` at either end. Every function takes any
-// run, also one that is no view.
+// run, also one that is no view. Those that no crate calls are entries for users: document 01, module 1 asks for views.
 #![tactic(auto)]
 
 ghost use Rattle.digits.specs.Promise.{New, Upto, From, AfterFirst, BeforeLast};

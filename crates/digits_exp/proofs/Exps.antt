@@ -11,7 +11,7 @@ use Rattle.laws.specs.Lists.{no_length}
 use Rattle.digits_exp.specs.declared.Span.{Span}
 use Rattle.digits.specs.Meaning.{is_zero, drop_while, drop_back}
 use Rattle.digits_exp.specs.Meaning.{span_of, IsSpan, Stands, StandsExp, digits_exp_of}
-use Rattle.digits_exp.specs.Inner.{empty_span, StandsPair}
+use Rattle.digits_exp.specs.Inner.{Empty, StandsPair}
 use Rattle.digits_exp.specs.Zeros.{while-append-none, while-append-some, back-append-none, back-append-some, only-if, int-zeros, frac-zeros}
 use Rattle.digits_exp.proofs.Spans.{empty_stands}
 
@@ -23,14 +23,14 @@ some_left : {t : List ℕ} {x : Span} {d : List ℕ} → Stands t x d → (x.dig
 some_left s h e = h (omega (arith, s.is.count, ap length s.same, ap length e))
 
 -- one view alone
-pair_one : (t : List ℕ) {y e : Span} {d d' : List ℕ} → Stands t y d → e ≡ empty_span → d ≡ d' → StandsPair t (y, e) d'
+pair_one : (t : List ℕ) {y e : Span} {d d' : List ℕ} → Stands t y d → Empty e → d ≡ d' → StandsPair t (y, e) d'
 pair_one t {y} s q h =
     let n = empty_stands t q in
     record { one = s.is; two = n.is; same = ap (λ (l : List ℕ). span_of t y ++ l) n.same ∙ append-nil (span_of t y) ∙ s.same ∙ h }
 
 -- ---- two views a and b without the zeros in front, or behind; x and y are the views that are left of them
 module _ (t : List ℕ) (a b : Span) where
-  pub front-none : {x y e : Span} → Stands t x (drop_while is_zero (span_of t a)) → x.digits ≡ 0 → Stands t y (drop_while is_zero (span_of t b)) → e ≡ empty_span
+  pub front-none : {x y e : Span} → Stands t x (drop_while is_zero (span_of t a)) → x.digits ≡ 0 → Stands t y (drop_while is_zero (span_of t b)) → Empty e
       → StandsPair t (y, e) (drop_while is_zero (span_of t a ++ span_of t b))
   front-none sx z sy q = pair_one t sy q (sym (while-append-none is_zero (span_of t a) (span_of t b) (none_left sx z)))
 
@@ -43,7 +43,7 @@ module _ (t : List ℕ) (a b : Span) where
         same = ap (λ (l : List ℕ). l ++ span_of t b) sx.same ∙ sym (while-append-some is_zero (span_of t a) (span_of t b) (some_left sx h));
       }
 
-  pub back_none : {x y e : Span} → Stands t y (drop_back is_zero (span_of t b)) → y.digits ≡ 0 → Stands t x (drop_back is_zero (span_of t a)) → e ≡ empty_span
+  pub back_none : {x y e : Span} → Stands t y (drop_back is_zero (span_of t b)) → y.digits ≡ 0 → Stands t x (drop_back is_zero (span_of t a)) → Empty e
       → StandsPair t (x, e) (drop_back is_zero (span_of t a ++ span_of t b))
   back_none sy z sx q = pair_one t sx q (sym (back-append-none is_zero (span_of t a) (span_of t b) (none_left sy z)))
 

@@ -22,7 +22,7 @@ use Rattle.digits.specs.Meaning.{is_zero, drop_while, drop_back}
 use Rattle.digits_exp.specs.Zeros.{zeros-length, take-zeros, drop-zeros, while-append-none, back-append-none, zeros-while, zeros-back}
 use Rattle.digits_exp.specs.Meaning.{span_of, IsSpan, Stands, StandsExp, digits_exp_of, right_int}
 use Rattle.digits_exp.specs.Meaning.{right_frac, left_int, left_frac, moved_int, moved_frac, StandsDropped}
-use Rattle.digits_exp.specs.Inner.{empty_span, empty_exp, Moved}
+use Rattle.digits_exp.specs.Inner.{Empty, EmptyExp, Moved}
 use Rattle.digits_exp.proofs.Spans.{empty_stands}
 
 -- ---- to the right
@@ -88,21 +88,20 @@ module _ (n : ℕ) (i f : List ℕ) where
 pub exp-as : {t : List ℕ} {x : DigitsExp} {d d' : List ℕ} → StandsExp t x d → d ≡ d' → StandsExp t x d'
 exp-as h e = record { is = h.is; same = h.same ∙ e }
 
-pub nothing-stands : (t : List ℕ) {x : DigitsExp} → x ≡ empty_exp → StandsExp t x []
+pub nothing-stands : (t : List ℕ) {x : DigitsExp} → EmptyExp x → StandsExp t x []
 unfolding digits_exp_of
-nothing-stands t q =
-    let n = empty_stands t {r = empty_span} refl in
-    subst (λ (x : DigitsExp). StandsExp t x []) (sym q)
-    (record {
-      is = record { one = n.is; two = n.is };
-      same = ap (λ (l : List ℕ). l ++ (span_of t empty_span ++ [])) n.same ∙ append-nil (span_of t empty_span)
-          ∙ n.same;
-    })
+nothing-stands t {x} q =
+    let a = empty_stands t q.1.0 in
+    let b = empty_stands t q.1.1.0 in
+    record {
+      is = record { one = a.is; two = b.is };
+      same = rw (q.0, q.1.1.1, a.same, b.same);
+    }
 
 module _ (t : List ℕ) (a b : Span) (n : ℕ) where
   -- all digits of the fraction go to the integer
   pub right-moved-all : {x y : DigitsExp} → IsSpan t b → b.digits ≤ n
-      → StandsExp t x (drop_while is_zero ((span_of t a ++ span_of t b) ++ zeros (n - b.digits))) → y ≡ empty_exp
+      → StandsExp t x (drop_while is_zero ((span_of t a ++ span_of t b) ++ zeros (n - b.digits))) → EmptyExp y
       → Moved t (record { int = x; frac = y }) (right_int n) (right_frac n) a b
   right-moved-all ib h sx q =
       let k : length (span_of t b) ≤ n = omega (arith, ib.count) in
@@ -116,7 +115,7 @@ module _ (t : List ℕ) (a b : Span) (n : ℕ) where
 
   -- n digits go, m, and some stay, l
   pub right-moved-some : {m l e : Span} {x y : DigitsExp} → IsSpan t b → n < b.digits → Stands t m (take n (span_of t b)) → Stands t l (drop n (span_of t b))
-      → e ≡ empty_span
+      → Empty e
       → StandsExp t x (drop_while is_zero ((span_of t a ++ span_of t m) ++ zeros 0)) → StandsExp t y (drop_back is_zero (zeros 0 ++ (span_of t e ++ span_of t l)))
       → Moved t (record { int = x; frac = y }) (right_int n) (right_frac n) a b
   right-moved-some {m} {l} {e} ib h sm sl q sx sy =
@@ -134,7 +133,7 @@ module _ (t : List ℕ) (a b : Span) (n : ℕ) where
 
   -- all digits of the integer go to the fraction
   pub left-moved-all : {x y : DigitsExp} → IsSpan t a → a.digits ≤ n
-      → x ≡ empty_exp → StandsExp t y (drop_back is_zero (zeros (n - a.digits) ++ (span_of t a ++ span_of t b)))
+      → EmptyExp x → StandsExp t y (drop_back is_zero (zeros (n - a.digits) ++ (span_of t a ++ span_of t b)))
       → Moved t (record { int = x; frac = y }) (left_int n) (left_frac n) a b
   left-moved-all ia h q sy =
       let k : length (span_of t a) ≤ n = omega (arith, ia.count) in
@@ -148,7 +147,7 @@ module _ (t : List ℕ) (a b : Span) (n : ℕ) where
 
   -- n digits go, m, and some stay, l
   pub left-moved-some : {m l e : Span} {x y : DigitsExp} → IsSpan t a → n < a.digits
-      → Stands t l (take (a.digits - n) (span_of t a)) → Stands t m (drop (a.digits - n) (span_of t a)) → e ≡ empty_span
+      → Stands t l (take (a.digits - n) (span_of t a)) → Stands t m (drop (a.digits - n) (span_of t a)) → Empty e
       → StandsExp t x (drop_while is_zero ((span_of t l ++ span_of t e) ++ zeros 0)) → StandsExp t y (drop_back is_zero (zeros 0 ++ (span_of t m ++ span_of t b)))
       → Moved t (record { int = x; frac = y }) (left_int n) (left_frac n) a b
   left-moved-some {m} {l} {e} ia h sl sm q sx sy =

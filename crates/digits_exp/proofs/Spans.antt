@@ -14,7 +14,7 @@ use Rattle.digits.specs.Runs.{while-length, middle, take_head, drop_head, head-l
 use Rattle.digits.specs.Theorems.{new-whole, trimmed-view, view-trimmed, trimmed-digits, head-digits, tail-digits}
 use Rattle.digits.specs.Theorems.{leading-within, trailing-within, leading-left, trailing-left}
 use Rattle.digits_exp.specs.Meaning.{span_of, IsSpan, Stands}
-use Rattle.digits_exp.specs.Inner.{empty_span, Held}
+use Rattle.digits_exp.specs.Inner.{Empty, Held}
 
 -- ---- a span that a type holds
 pub is-held : {t : List ℕ} {s : Span} → Held t s → IsSpan t s
@@ -103,9 +103,14 @@ module _ (t : List ℕ) (a e n : ℕ) {u : List ℕ} {p : ℕ} (eu : u ≡ part 
   from-stands s = record { is = s.is; same = s.same ∙ ap digits_of part-from ∙ tail-digits u n ∙ ap (λ (l : List ℕ). drop n (digits_of l)) eu }
 
 -- ---- the view with no digits, a view as it is, and other words for the same digits
-pub empty_stands : (t : List ℕ) {r : Span} → r ≡ empty_span → Stands t r []
+empty-span : {r : Span} → Empty r → r ≡ record { from = 0; to = 0; digits = 0 }
+empty-span {r} q = rw (q.0, q.1.0, q.1.1)
+
+pub empty_stands : (t : List ℕ) {r : Span} → Empty r → Stands t r []
 unfolding span_of StartsWithNo digits_of
-empty_stands t q = subst (λ (r : Span). Stands t r []) (sym q) (record { is = record { view = record { front = tt; back = tt }; count = refl }; same = refl })
+empty_stands t q =
+    subst (λ (r : Span). Stands t r []) (sym (empty-span q))
+    (record { is = record { view = record { front = tt; back = tt }; count = refl }; same = refl })
 
 pub self-stands : {t : List ℕ} {s : Span} → IsSpan t s → Stands t s (span_of t s)
 self-stands h = record { is = h; same = refl }

@@ -9,11 +9,11 @@ use Rattle.digits.specs.Meaning.{trimmed}
 use Rattle.digits_exp.specs.Meaning.{span_of, IsSpan, StandsDropped}
 
 -- a view and a whole with no digits
-abbrev pub empty_span : Span
-empty_span = record { from = 0; to = 0; digits = 0 }
+abbrev pub Empty : Span → Type 0
+Empty s = (s.from ≡ 0) × ((s.to ≡ 0) × (s.digits ≡ 0))
 
-abbrev pub empty_exp : DigitsExp
-empty_exp = record { leading_zeros = 0; part1 = empty_span; part2 = empty_span; trailing_zeros = 0 }
+abbrev pub EmptyExp : DigitsExp → Type 0
+EmptyExp x = (x.leading_zeros ≡ 0) × (Empty x.part1 × (Empty x.part2 × (x.trailing_zeros ≡ 0)))
 
 -- What a type says of its span of a text, in equations: what `IsSpan` says
 abbrev pub Held : List ℕ → Span → Type 0

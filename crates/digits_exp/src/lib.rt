@@ -1,5 +1,6 @@
 // The second layer (S's `DigitsExp`): some leading zeros, two views, some trailing zeros. A view stands here as two
-// places of the lent text with its digit count. Zeros are counts: no exponent is ever written out.
+// places of the lent text with its digit count. Zeros are counts: no exponent is ever written out. No crate calls these:
+// they are entries for users, the digit views that document 01, module 1 asks for.
 #![tactic(auto)]
 
 ghost use Rattle.std.specs.Prelude.{◌^◌, ◌<◌, length};
@@ -17,7 +18,7 @@ use view::View;
 
 // A view: the text from `from` up to `to`, and how many digits it has. Plain, since `view_of` answers for any span:
 // `View` has the text and the invariant.
-#[derive(Clone, Copy)]
+#[derive(Clone, Copy, Default)]
 pub struct Span {
     pub from: usize,
     pub to: usize,
@@ -25,7 +26,7 @@ pub struct Span {
 }
 
 // Plain too, since the promises (`IsExp`, `StandsExp`) speak of a text beside it: `Whole` has both and the invariant.
-#[derive(Clone, Copy)]
+#[derive(Clone, Copy, Default)]
 pub struct DigitsExp {
     pub leading_zeros: usize,
     pub part1: Span,

@@ -3,9 +3,9 @@ ghost use Rattle.std.specs.Prelude.{◌≡◌, cond, ◌++◌, eqb};
 ghost use Rattle.laws.specs.Text.{zeros};
 ghost use Rattle.digits.specs.Meaning.{is_zero, drop_while, drop_back};
 ghost use Rattle.digits_exp.specs.Meaning.{StandsExp, right_int, right_frac, left_int, left_frac};
-ghost use Rattle.digits_exp.specs.Inner.{empty_exp, Held, StandsPair, Moved};
+ghost use Rattle.digits_exp.specs.Inner.{Held, StandsPair, Moved};
 
-use super::view::{self, View};
+use super::view::View;
 use super::{DigitsExp, IntFrac, Span};
 
 // Two views of a text, one after the other: where an exponent moves digits, of the integer and of the fraction.
@@ -29,18 +29,6 @@ fn if_digits(a: Span, b: Span, extra: usize) -> usize
     }
 }
 
-// The number with no digits at all.
-fn nothing() -> DigitsExp
-    ensures { result ≡ empty_exp }
-{
-    DigitsExp {
-        leading_zeros: 0,
-        part1: view::empty(),
-        part2: view::empty(),
-        trailing_zeros: 0,
-    }
-}
-
 impl<'a> Pair<'a> {
     ghost use Rattle.digits_exp.specs.Views.{pair_digits};
 
@@ -52,7 +40,10 @@ impl<'a> Pair<'a> {
         let Pair { text, a, b } = self;
         let left = View { text, at: a }.without_leading_zeros();
         if left.digits == 0 {
-            return (View { text, at: b }.without_leading_zeros(), view::empty());
+            return (
+                View { text, at: b }.without_leading_zeros(),
+                Span::default(),
+            );
         }
         (left, b)
     }
@@ -64,7 +55,10 @@ impl<'a> Pair<'a> {
         let Pair { text, a, b } = self;
         let left = View { text, at: b }.without_trailing_zeros();
         if left.digits == 0 {
-            return (View { text, at: a }.without_trailing_zeros(), view::empty());
+            return (
+                View { text, at: a }.without_trailing_zeros(),
+                Span::default(),
+            );
         }
         (a, left)
     }
@@ -104,13 +98,13 @@ impl<'a> Pair<'a> {
         if b.digits <= n {
             return IntFrac {
                 int: self.int_with(n - b.digits),
-                frac: nothing(),
+                frac: DigitsExp::default(),
             };
         }
         let frac = View { text, at: b };
         let moved = frac.keep(n);
         let int = Pair { text, a, b: moved }.int_with(0);
-        let (a, b) = (view::empty(), frac.skip(n));
+        let (a, b) = (Span::default(), frac.skip(n));
         let frac = Pair { text, a, b }.frac_with(0);
         IntFrac { int, frac }
     }
@@ -123,14 +117,14 @@ impl<'a> Pair<'a> {
         let Pair { text, a, b } = self;
         if a.digits <= n {
             return IntFrac {
-                int: nothing(),
+                int: DigitsExp::default(),
                 frac: self.frac_with(n - a.digits),
             };
         }
         let int = View { text, at: a };
         let moved = int.skip(a.digits - n);
         let frac = Pair { text, a: moved, b }.frac_with(0);
-        let (a, b) = (int.keep(a.digits - n), view::empty());
+        let (a, b) = (int.keep(a.digits - n), Span::default());
         let int = Pair { text, a, b }.int_with(0);
         IntFrac { int, frac }
     }

@@ -3,7 +3,7 @@ ghost use Rattle.std.specs.Prelude.{◌≡◌, ◌∷◌, ◌<◌, ◌≤◌, le
 ghost use Rattle.laws.specs.Lists.{part};
 ghost use Rattle.digits.specs.Meaning.{is_zero, digits_of, drop_while, drop_back};
 ghost use Rattle.digits_exp.specs.Meaning.{Stands};
-ghost use Rattle.digits_exp.specs.Inner.{empty_span, Held};
+ghost use Rattle.digits_exp.specs.Inner.{Held};
 
 use super::{Span, part};
 use digits::count;
@@ -14,17 +14,6 @@ pub(crate) struct View<'a> {
     pub(crate) text: &'a [u8],
     pub(crate) at: Span,
     ghost held: { Held text.now at },
-}
-
-// The view with no digits.
-pub(crate) fn empty() -> Span
-    ensures { result ≡ empty_span }
-{
-    Span {
-        from: 0,
-        to: 0,
-        digits: 0,
-    }
 }
 
 // The view of the text from `from` up to `to`.
@@ -73,7 +62,11 @@ impl<'a> View<'a> {
         requires { n ≤ self.at.digits }
         ensures { Stands self.entry.text.now result (take n (view_digits self.entry)) }
     {
-        if n == 0 { empty() } else { self.split_upto(n) }
+        if n == 0 {
+            Span::default()
+        } else {
+            self.split_upto(n)
+        }
     }
 
     // The view without the first n of its digits.

@@ -7,16 +7,16 @@ use Rattle.digits_exp.proofs.moving.Pair.move_right.Goals as goal
 
 pub returns-then-b-n : goal.returns-then-b-n
 returns-then-b-n c =
-    right-moved-all _ _ _ _ (is-held c.args.self.b_held) (omega arith) c.int_with.ensures c.nothing.ensures
+    right-moved-all _ _ _ _ (is-held c.args.self.b_held) (omega arith) c.int_with.ensures c.default.ensures
 
 pub invariant_of-int_with : goal.invariant_of-int_with
 invariant_of-int_with c = record { a_held = c.args.self.a_held; b_held = held-is c.keep-moved.ensures.is }
 
 pub invariant_of-frac_with : goal.invariant_of-frac_with
-invariant_of-frac_with c = record { a_held = held-is (empty_stands _ c.empty-a.ensures).is; b_held = held-is c.skip-b.ensures.is }
+invariant_of-frac_with c = record { a_held = held-is (empty_stands _ c.default-a.ensures).is; b_held = held-is c.skip-b.ensures.is }
 
 pub returns : goal.returns
 returns c =
     right-moved-some _ _ _ _ (is-held c.args.self.b_held) (omega arith)
-    c.keep-moved.ensures c.skip-b.ensures c.empty-a.ensures
+    c.keep-moved.ensures c.skip-b.ensures c.default-a.ensures
     c.int_with-int.ensures c.frac_with-frac.ensures

@@ -7,7 +7,7 @@ use Rattle.digits_exp.proofs.moving.Pair.strip_front.Goals as goal
 pub returns-then-left-eq0 : goal.returns-then-left-eq0
 returns-then-left-eq0 c =
     front-none _ _ _ c.without_leading_zeros-left.ensures c.if-left-eq0.true
-    c.without_leading_zeros.ensures c.empty.ensures
+    c.without_leading_zeros.ensures c.default.ensures
 
 pub returns : goal.returns
 returns c =

@@ -7,4 +7,4 @@ use Rattle.digits_exp.proofs.view.View.keep.Goals as goal
 
 pub returns-then-n-eq0 : goal.returns-then-n-eq0
 returns-then-n-eq0 c =
-    stands-as (empty_stands _ c.empty.ensures) (ap (λ (n : ℕ). take n (view_digits c.args.self)) (sym c.if-n-eq0.true))
+    stands-as (empty_stands _ c.default.ensures) (ap (λ (n : ℕ). take n (view_digits c.args.self)) (sym c.if-n-eq0.true))
