@@ -1,9 +1,6 @@
 -- The literal's sign and prefix as places of the text. Assumes nothing.
-use Rattle.std.specs.Prelude.{◌≡◌, Bool, ℕ, suc, ◌+◌, ◌-◌, ◌≤◌, ◌<◌, ◌==◌, length, take, get_or, take_while}
-use Rattle.std.specs.List.{prefix_len}
+use Rattle.std.specs.Prelude.{◌≡◌, Bool, ℕ, suc, ◌+◌, ◌-◌, ◌≤◌, ◌<◌, eqb, length, take, get_or}
 use Rattle.std.proofs.lemmas.List.{take_rest}
-use Rattle.std.proofs.lemmas.List.Folds.{length-prefix_len}
-use Rattle.std.proofs.lemmas.List.Sums.{prefix_len-le-length}
 use Rattle.std.proofs.Math.Path.{refl, sym, ap}
 use Rattle.std.proofs.Common.{ap₂, ◌∙◌, arith, length-drop, drop-drop}
 use Rattle.std.proofs.Math.Bool.{true, false, cond}
@@ -13,6 +10,7 @@ use mir.Val.{bool_byte}
 use Rattle.std.proofs.Math.ListN.{drop}
 use borrow.Author.Tests.{ne_eqb}
 use Rattle.laws.specs.Lists.{no_length}
+use Rattle.digits.specs.Meaning.{is_und, take_while}
 use Rattle.format.specs.Meaning.{Sign, sign_by}
 use Rattle.grammar.specs.Meaning.{prefix_radix, drop_underscores, after_prefix, literal_minus}
 use Rattle.grammar.specs.Meaning.{literal_body, literal_radix, literal_reading, is_radix, blank}
@@ -65,31 +63,37 @@ prefix-long (a ∷ []) h = absurd (h (sym (short-prefix (a ∷ []) (omega arith)
 prefix-long (a ∷ b ∷ t) h = omega arith
 
 -- ---- the underscores after it, n how many the code finds
-past_underscores : (u : List ℕ) → drop (length (take_while (λ (b : ℕ). b == 95) u)) u ≡ drop_underscores u
-unfolding drop_underscores
-past_underscores u = ap (λ (k : ℕ). drop k u) (length-prefix_len (λ (b : ℕ). b == 95) u) ∙ go u
+past_underscores : (u : List ℕ) → drop (length (take_while is_und u)) u ≡ drop_underscores u
+unfolding drop_underscores take_while is_und
+past_underscores [] = refl
+past_underscores (b ∷ u) = go (eqb b 95) (past_underscores u)
   where
-    step : (g : Bool) (b m : ℕ) (u : List ℕ) → drop m u ≡ drop_underscores u → drop (cond g (1 + m) 0) (b ∷ u) ≡ cond g (drop_underscores u) (b ∷ u)
-    step true b m u e = let z : 1 + m ≡ suc m = omega arith in ap (λ (k : ℕ). drop k (b ∷ u)) z ∙ e
-    step false b m u e = refl
+    go : (g : Bool) → drop (length (take_while is_und u)) u ≡ drop_underscores u
+        → drop (length (cond g (b ∷ take_while is_und u) [])) (b ∷ u) ≡ cond g (drop_underscores u) (b ∷ u)
+    go true e = e
+    go false e = refl
 
-    go : (u : List ℕ) → drop (prefix_len (λ (b : ℕ). b == 95) u) u ≡ drop_underscores u
-    go [] = refl
-    go (b ∷ u) = step (b == 95) b (prefix_len (λ (b : ℕ). b == 95) u) u (go u)
+underscores-fit : (u : List ℕ) → length (take_while is_und u) ≤ length u
+unfolding take_while
+underscores-fit [] = omega arith
+underscores-fit (b ∷ u) = go (is_und b) (underscores-fit u)
+  where
+    go : (g : Bool) → length (take_while is_und u) ≤ length u → length (cond g (b ∷ take_while is_und u) []) ≤ length (b ∷ u)
+    go true h = omega arith
+    go false h = omega arith
 
 -- ---- where the digits start
 module _ (t : List ℕ) {radix : ℕ} (e : radix ≡ prefix_radix t) where
   pub digits-room : (radix ≡ 10 → ⊥) → 2 ≤ length t
   digits-room h = prefix-long t (λ z. h (e ∙ z))
 
-  module _ {n : ℕ} (h : radix ≡ 10 → ⊥) (q : n ≡ length (take_while (λ (b : ℕ). b == 95) (take (length t - 2) (drop 2 t)))) where
+  module _ {n : ℕ} (h : radix ≡ 10 → ⊥) (q : n ≡ length (take_while is_und (take (length t - 2) (drop 2 t)))) where
     pub digits-fit : 2 + n ≤ length t
     digits-fit =
         omega (
           arith,
           q,
-          length-prefix_len (λ (b : ℕ). b == 95) (take (length t - 2) (drop 2 t)),
-          prefix_len-le-length (λ (b : ℕ). b == 95) (take (length t - 2) (drop 2 t)),
+          underscores-fit (take (length t - 2) (drop 2 t)),
           ap length (take_rest t 2),
           length-drop 2 t,
           digits-room h,
@@ -98,7 +102,7 @@ module _ (t : List ℕ) {radix : ℕ} (e : radix ≡ prefix_radix t) where
     pub digits-prefixed : drop (2 + n) t ≡ after_prefix t
     digits-prefixed =
         sym (drop-drop n 2 t)
-        ∙ ap (λ (k : ℕ). drop k (drop 2 t)) (q ∙ ap (λ (u : List ℕ). length (take_while (λ (b : ℕ). b == 95) u)) (take_rest t 2))
+        ∙ ap (λ (k : ℕ). drop k (drop 2 t)) (q ∙ ap (λ (u : List ℕ). length (take_while is_und u)) (take_rest t 2))
         ∙ past_underscores (drop 2 t)
         ∙ sym (ap (λ (g : Bool). cond g t (drop_underscores (drop 2 t))) (ne_eqb (prefix_radix t) 10 (λ z. h (e ∙ z))))
 

@@ -1,13 +1,14 @@
 // The scanner of literals: the sign, the prefix, then the digits (S's `lit`).
-ghost use Rattle.std.specs.Prelude.{◌≡◌, ◌≤◌, length, drop, take_while, ◌==◌};
+ghost use Rattle.std.specs.Prelude.{◌≡◌, ◌≤◌, length, drop};
 ghost use Rattle.format.specs.Meaning.{sign_by};
 ghost use Rattle.grammar.specs.Meaning.{literal_minus, prefix_radix, after_prefix};
 ghost use Rattle.scan.specs.Literal.{FindsLiteral};
 
 use crate::Found;
 use crate::reader::Reader;
+use digits::count;
 
-// What a literal is, and its radix.
+// What a literal is, and its radix. The radix stands beside the Result: `FindsLiteral` says that of a refused text too.
 #[derive(Clone, Copy)]
 pub struct Written {
     pub radix: u32,
@@ -34,13 +35,6 @@ fn prefix_radix(text: &[u8]) -> u32
     }
 }
 
-// How many `_` stand in front of a text.
-fn underscores(text: &[u8]) -> usize
-    ensures { result ≡ length (take_while (λ b. b == 95) text.now) }
-{
-    text.iter().take_while(|b| **b == b'_').count()
-}
-
 // Where the digits start, the prefix in front being of this radix.
 fn digits_at(text: &[u8], radix: u32) -> usize
     requires { radix ≡ prefix_radix text.now }
@@ -49,7 +43,7 @@ fn digits_at(text: &[u8], radix: u32) -> usize
     if radix == 10 {
         0
     } else {
-        2 + underscores(&text[2..])
+        2 + count::unds_front(&text[2..])
     }
 }
 
