@@ -1,11 +1,9 @@
 -- The run of digits at a place of a text, and the count that finds its end. Assumes nothing.
-use Rattle.std.specs.Prelude.{◌≡◌, refl, Bool, true, false, cond, List, [], ◌∷◌, ℕ, suc, ◌+◌, ◌≤◌, ◌<◌, drop, get_or, take_while}
+use Rattle.std.specs.Prelude.{◌≡◌, refl, Bool, true, false, cond, List, [], ◌∷◌, ℕ, suc, ◌+◌, ◌≤◌, ◌<◌, drop, get_or}
 use Rattle.std.proofs.Common.{sym, ◌∙◌, add-one, drop_of_length-le}
-use Rattle.std.proofs.Math.Path.{ap}
 use native.Mathlib.Omega.{arith}
 use Rattle.std.proofs.Math.ListN.{length}
 use Rattle.std.proofs.Math.Seq.{drop-cons}
-use Rattle.std.proofs.lemmas.List.Sums.{take_while-cons}
 use Rattle.digits.specs.Meaning.{digits_of}
 use Rattle.grammar.specs.Automaton.{is_digit}
 use Rattle.laws.specs.Lists.{part}
@@ -22,9 +20,18 @@ run_at t from radix skip =
     }
 
 -- ---- the rest of a run
-more-none : (skip : Bool) (radix : ℕ) → run_more skip radix [] ≡ 0
-unfolding run_more
-more-none skip radix = refl
+module _ (skip : Bool) (radix : ℕ) where
+  pub more-none : run_more skip radix [] ≡ 0
+  unfolding run_more
+  more-none = refl
+
+  pub more-stop : (b : ℕ) (t : List ℕ) → in_run skip radix b ≡ false → run_more skip radix (b ∷ t) ≡ 0
+  unfolding run_more
+  more-stop b t e = rw e
+
+  pub more-next : (b : ℕ) (t : List ℕ) → in_run skip radix b ≡ true → run_more skip radix (b ∷ t) ≡ run_more skip radix t + 1
+  unfolding run_more
+  more-next b t e = rw (e, add-one)
 
 -- a run is no longer than what there is
 pub more-fits : (skip : Bool) (radix : ℕ) (t : List ℕ) → run_more skip radix t ≤ length t
@@ -35,17 +42,6 @@ more-fits skip radix (b ∷ t) = go (in_run skip radix b) (more-fits skip radix 
     go : (g : Bool) → run_more skip radix t ≤ length t → cond g (suc (run_more skip radix t)) 0 ≤ length (b ∷ t)
     go true h = omega arith
     go false h = omega arith
-
--- the library's chain takes as many bytes as the rest of a run has
-pub more-counted : (skip : Bool) (radix : ℕ) (t : List ℕ) → length (take_while (in_run skip radix) t) ≡ run_more skip radix t
-unfolding run_more
-more-counted skip radix [] = refl
-more-counted skip radix (b ∷ t) = ap length (take_while-cons (in_run skip radix) b t) ∙ go (in_run skip radix b) (more-counted skip radix t)
-  where
-    go : (g : Bool) → length (take_while (in_run skip radix) t) ≡ run_more skip radix t
-        → length (cond g (b ∷ take_while (in_run skip radix) t) []) ≡ cond g (suc (run_more skip radix t)) 0
-    go true e = omega arith
-    go false e = refl
 
 -- ---- the run at a place, which is where the code finds it
 module _ (t : List ℕ) (from radix : ℕ) (skip : Bool) where

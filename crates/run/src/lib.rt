@@ -28,8 +28,9 @@ fn rest_end(text: &[u8], from: usize, radix: u32, skip: bool) -> usize
     requires { from ≤ length text.now }
     ensures { result ≡ from + run_more skip radix (drop from text.now) }
 {
-    let rest = text[from..].iter();
-    from + rest.take_while(|b| in_run(**b, radix, skip)).count()
+    let rest = &text[from..];
+    let stop = rest.iter().position(|b| !in_run(*b, radix, skip));
+    from + stop.unwrap_or(rest.len())
 }
 
 // The end of the run at `from`: `from` where no digit stands there.
