@@ -193,8 +193,8 @@ module _ (skip : Bool) (radix : ℕ) (legal : is_radix radix ≡ true) where
 abbrev pub whole_parsed : Bool → Run → Parsed
 whole_parsed neg r = record { neg = neg; whole = r; frac = record { from = r.to; to = r.to; digits = 0 }; base = 1; down = false; exp = 0 }
 
-abbrev pub frac_parsed : Bool → Run → Run → Parsed
-frac_parsed neg w r = record { neg = neg; whole = w; frac = r; base = 1; down = false; exp = 0 }
+abbrev pub before_mark : Bool → Run → Run → Parsed
+before_mark neg w r = record { neg = neg; whole = w; frac = r; base = 1; down = false; exp = 0 }
 
 -- what the fraction needs of the whole part: the point stands behind it
 pub record Behind (t : List ℕ) (w : Run) (from : ℕ) : Type 0 where
@@ -271,7 +271,7 @@ module _ (t : List ℕ) (from radix : ℕ) (skip : Bool) {run : Run} (e : run �
   unfolding run_at
   run-from = ap (λ (r : Run). r.from) e
 
-  pub frac-ready : from ≤ length t → is_radix radix ≡ true → (neg : Bool) (w : Run) → Behind t w from → Ready t (frac_parsed neg w run)
+  pub frac-ready : from ≤ length t → is_radix radix ≡ true → (neg : Bool) (w : Run) → Behind t w from → Ready t (before_mark neg w run)
   frac-ready h legal neg w b =
       record {
         whole-counted = b.counted;
@@ -292,7 +292,7 @@ module _ (t : List ℕ) (from radix : ℕ) (skip : Bool) {run : Run} (e : run �
       }
 
   pub frac-same : (neg : Bool) (w : Run)
-      → with_digits true (whole_of t neg w) (digit_values (take (run_len skip radix (drop from t)) (drop from t))) ≡ written_of t (frac_parsed neg w run)
+      → with_digits true (whole_of t neg w) (digit_values (take (run_len skip radix (drop from t)) (drop from t))) ≡ written_of t (before_mark neg w run)
   unfolding written_of
   frac-same neg w =
       ap (λ (ds : List ℕ). with_digits true (whole_of t neg w) ds) (sym run-span)

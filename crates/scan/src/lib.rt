@@ -6,6 +6,7 @@
 ghost use Rattle.std.specs.Prelude.{◌≡◌, true};
 ghost use Rattle.grammar.specs.Meaning.{plain_reading, is_radix};
 ghost use Rattle.scan.specs.Found.{Finds};
+ghost use Rattle.scan.specs.Parts.{before_mark};
 
 use format::Refusal;
 use reader::Reader;
@@ -17,7 +18,8 @@ mod mark;
 mod parts;
 mod reader;
 
-// A number as it stands in the text. `base` is what the exponent scales by.
+// A number as it stands in the text. `base` is what the exponent scales by. `down` and `exp` are apart as in the
+// meaning's `Written`, which `Finds` gives back: `1e-0` has a sign of its own there, and in one signed number has none.
 #[derive(Clone, Copy)]
 pub struct Parsed {
     pub neg: bool,
@@ -26,6 +28,22 @@ pub struct Parsed {
     pub base: u32,
     pub down: bool,
     pub exp: u64,
+}
+
+impl Parsed {
+    // What was read before the mark: no exponent.
+    fn new(neg: bool, whole: Run, frac: Run) -> Parsed
+        ensures { result ≡ before_mark neg whole frac }
+    {
+        Parsed {
+            neg,
+            whole,
+            frac,
+            base: 1,
+            down: false,
+            exp: 0,
+        }
+    }
 }
 
 // What the scanner finds.

@@ -40,14 +40,7 @@ impl Reader {
             (at fractionPart nothing (whole_of text.now neg whole))) }
     {
         let run = run::run_at(text, from, self.radix, self.skip);
-        let p = Parsed {
-            neg,
-            whole,
-            frac: run,
-            base: 1,
-            down: false,
-            exp: 0,
-        };
+        let p = Parsed::new(neg, whole, run);
         let Some(b) = text.get(run.to) else {
             return ends::unmarked(p);
         };
@@ -61,18 +54,12 @@ impl Reader {
             (reading (sep_of self.skip) self.radix (drop from text.now) (at wholePart signSeen (blank neg))) }
     {
         let run = run::run_at(text, from, self.radix, self.skip);
-        let p = Parsed {
-            neg,
-            whole: run,
-            frac: Run {
-                from: run.to,
-                to: run.to,
-                digits: 0,
-            },
-            base: 1,
-            down: false,
-            exp: 0,
+        let behind = Run {
+            from: run.to,
+            to: run.to,
+            digits: 0,
         };
+        let p = Parsed::new(neg, run, behind);
         let Some(b) = text.get(run.to) else {
             return ends::unmarked(p);
         };
