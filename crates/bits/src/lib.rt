@@ -15,7 +15,8 @@ use fold::body::Digits;
 use std::cmp::Ordering;
 
 // The raw of a text that the scan accepted, whose digits stand in `body`: n of them, `after` of them after the point.
-// n is a number of its own: `body` has gaps too, and the readers hand over what the scanner counted.
+// n is a number of its own: `body` has gaps too, and the readers hand over what the scanner counted. Eight parameters,
+// since the promise is over these: what `as_written` and `raw_of` take, `down` and `exp` apart as in `scan::Parsed`.
 pub fn bits(
     body: &[u8],
     n: usize,

@@ -1,6 +1,6 @@
 // The second layer (S's `DigitsExp`): some leading zeros, two views, some trailing zeros. A view stands here as two
-// places of the lent text with its digit count. Zeros are counts: no exponent is ever written out. No crate calls these:
-// they are entries for users, the digit views that document 01, module 1 asks for.
+// places of the lent text with its digit count. Zeros are counts: no exponent is ever written out. No crate calls
+// these functions: they are entries for users, the digit views that document 01, module 1 asks for.
 #![tactic(auto)]
 
 ghost use Rattle.std.specs.Prelude.{◌^◌, ◌<◌, length};

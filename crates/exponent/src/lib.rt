@@ -48,7 +48,7 @@ fn exp_other(class: Class, skip: bool, seen: bool, e: u64) -> ExpStep
 
 // One byte of the exponent, whose digits are decimal in every radix. `radix` and `skip` are scan's `Reader` taken apart
 // here alone, as in `run::run_at`, which says why. `seen` and `e` are two parameters, and no Option: the promise is
-// `exp_step_of`, which has both.
+// `exp_step_of`, which has both, as it has `down` beside `e` (`scan::Parsed` says why).
 #[tactic(auto, unfolding(crate::specs::Exponent::exp_step_of, grammar::specs::Class::digit))]
 pub fn exp_step(b: u8, radix: u32, skip: bool, seen: bool, down: bool, e: u64) -> ExpStep
     requires { e ≤ 2147483648 }

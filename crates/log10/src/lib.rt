@@ -1,4 +1,5 @@
 // The logarithm of document 01, module 3: the greatest k with 10^k <= raw / 2^F.
+// A format comes as its two numbers: the entry refuses what is none.
 #![tactic(auto)]
 
 ghost use Rattle.std.specs.Prelude.{◌≡◌, ◌+◌, ◌-◌, ◌*◌, ◌^◌, ◌≤◌, ◌<◌, pos, ◌-ℤ◌};

@@ -1,4 +1,5 @@
-// Writing a raw of a format, then reading: the same raw.
+// Writing a raw of a format, then reading: the same raw. A format comes as its two numbers: the writer refuses what is
+// none.
 ghost use Rattle.round_trip.specs.Again.{SameRaw, ReadBack};
 
 use format::{Answered, Manner, Raw};

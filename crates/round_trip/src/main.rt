@@ -12,26 +12,23 @@ fn main(rt: HostRuntime) -> io::Result<()> {
     show(&rt, again::again(1i64, 16, 15, Manner::Strict, &mut out))?;
     show(
         &rt,
-        again::again(-32768i64, 16, 15, Manner::Strict, &mut out),
+        again::again(i64::from(i16::MIN), 16, 15, Manner::Strict, &mut out),
     )?;
     show(
         &rt,
-        again::again(-9223372036854775808i64, 64, 64, Manner::Wrapping, &mut out),
-    )?;
-    show(&rt, again::again(127i64, 8, 9, Manner::Strict, &mut out))?;
-    show(
-        &rt,
-        again::again(
-            18446744073709551615u64,
-            64,
-            64,
-            Manner::Saturating,
-            &mut out,
-        ),
+        again::again(i64::MIN, 64, 64, Manner::Wrapping, &mut out),
     )?;
     show(
         &rt,
-        again::again(255u64, 8, 3, Manner::Overflowing, &mut out),
+        again::again(i64::from(i8::MAX), 8, 9, Manner::Strict, &mut out),
+    )?;
+    show(
+        &rt,
+        again::again(u64::MAX, 64, 64, Manner::Saturating, &mut out),
+    )?;
+    show(
+        &rt,
+        again::again(u64::from(u8::MAX), 8, 3, Manner::Overflowing, &mut out),
     )
 }
 

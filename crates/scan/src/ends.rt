@@ -24,7 +24,8 @@ pub(crate) fn unmarked(p: Parsed) -> Found
     Ok(p)
 }
 
-// The end of the exponent: a text with no digits is none, nor is a mark with no digit after it.
+// The end of the exponent: a text with no digits is none, nor is a mark with no digit after it. `seen` and `e` as the
+// last `exponent::exp_step` left them.
 #[tactic(auto, unfolding(crate::specs::Found::exp_end_of))]
 pub(crate) fn exp_end(p: Parsed, seen: bool, e: u64) -> Found
     ensures { result ≡ exp_end_of p seen e }

@@ -10,7 +10,7 @@ use crate::{Found, Parsed, ends};
 
 impl Reader {
     // The exponent's digits, once its sign was read. What is known of p and of the place speaks of the text, which is
-    // lent beside them (`Reader` says why).
+    // lent beside them (`Reader` says why). `seen` and `e` are two, and no Option, as `exponent::exp_step` takes them.
     fn exp_run(self, text: &[u8], from: usize, p: Parsed) -> Found
         requires { (from ≤ length text.now) × Ready text.now p }
         ensures { Finds text.now result

@@ -26,8 +26,9 @@ const NO_MORE: u64 = 20;
 // Places from which on a power of ten is a whole number of 2^64.
 const ALL_TURNS: u64 = 64;
 
-// The readers hand over what the scanner counted, and a format's fraction bits: the promise is over these numbers.
-// The raw of the number with these digits, `after` of them after the point, times ten to the exponent.
+// The raw of the number with these digits, `after` of them after the point, times ten to the exponent. The readers hand
+// over what the scanner counted, and a format's fraction bits: the promise is over these numbers, `down` and `exp`
+// apart as in `scan::Parsed`.
 pub fn tens(body: &[u8], n: usize, after: usize, down: bool, exp: u64, frac: u32) -> Folded
     requires { (n ≡ length (body_of body.now)) × (after ≤ n) × ((d : ℕ) → Memᴰ d (body_of body.now) → d < 10)
         × (exp ≤ 2147483648) × (frac ≤ 64) × (length body.now ≤ text_limit) }

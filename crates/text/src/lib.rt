@@ -1,7 +1,7 @@
 // A text to the nearest number of a format (document 01, module 2; S's src/from_str.rs). The scanner finds
 // the digits; `bits` or `tens`, by the radix, makes the nearest raw of them, a number of any size that is
 // carried folded into one word; the format settles it. A negative number is taken in an unsigned format where
-// it rounds to 0.
+// it rounds to 0. A format comes as its two numbers: each entry refuses what is none.
 #![tactic(auto)]
 
 ghost use Rattle.std.specs.Prelude.{◌≡◌};
