@@ -54,6 +54,7 @@ impl<'a> Digits<'a> {
         ensures value { result ≡ fold_of (nat_of radix (take count (digits_left self.old))) }
         ensures rest { digits_left self.new ≡ drop count (digits_left self.old) }
     {
+        // no chain, and no `for`, over `self.take(count)`: tried, and what it leaves in `self` has no proof
         let mut number = Folded::from(0);
         for _ in 0..count {
             let Some(digit) = self.next() else {
