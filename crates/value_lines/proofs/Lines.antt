@@ -1,8 +1,8 @@
 -- The parts of a file hold its values: what a part adds to the value lines, and how many these are. Assumes nothing.
-use Rattle.std.specs.Prelude.{◌≡◌, ◌⊎◌, refl, Bool, true, false, cond, List, [], ◌∷◌, ◌++◌, ℕ, suc, ◌+◌, ◌<◌, length, drop, get_or, filter}
-use Rattle.std.proofs.Common.{ap, ◌∙◌, inl, inr, arith, append-nil, drop-cons}
+use Rattle.std.specs.Prelude.{◌≡◌, ◌⊎◌, refl, Bool, true, false, cond, List, [], ◌∷◌, ◌++◌, ℕ, suc, ◌+◌, length, filter}
+use Rattle.std.proofs.Common.{ap, ◌∙◌, inl, inr, append-nil}
 use Rattle.value_lines.specs.Meaning.{lines_of, is_value, value_line, values_from}
-use Rattle.value_lines.specs.Lines.{parts_of, parts-are, value-more, value-skip}
+use Rattle.value_lines.specs.Lines.{parts_of, parts-are}
 use Rattle.value_lines.specs.Theorems.{values-append}
 
 -- ---- the parts hold the file's values: an empty part holds none
@@ -25,14 +25,3 @@ count-values n (line ∷ lines) = go (is_value line) (count-values (n + 1) lines
         ≡ length (cond b (value_line n line ∷ values_from (n + 1) lines) (values_from (n + 1) lines))
     go true h = ap suc h
     go false h = h
-
--- the part at a place
-module _ (parts : List (List ℕ)) (at n : ℕ) {line : List ℕ} (here : at < length parts) (is : line ≡ get_or parts at line) where
-  turn : drop at parts ≡ line ∷ drop (at + 1) parts
-  turn = let e = drop-cons parts at line here in let one : suc at ≡ at + 1 = omega arith in cc
-
-  pub at_value : is_value line ≡ true → values_from n (drop at parts) ≡ value_line n line ∷ values_from (n + 1) (drop (at + 1) parts)
-  at_value e = ap (values_from n) turn ∙ value-more n line (drop (at + 1) parts) e
-
-  pub at-skip : is_value line ≡ false → values_from n (drop at parts) ≡ values_from (n + 1) (drop (at + 1) parts)
-  at-skip e = ap (values_from n) turn ∙ value-skip n line (drop (at + 1) parts) e

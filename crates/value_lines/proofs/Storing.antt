@@ -1,99 +1,137 @@
--- The list at the start, with one line more and at the end: where some lines are through, so is the next, and at the end of the file all.
--- Assumes nothing.
-use Rattle.std.specs.Prelude.{◌≡◌, refl, Bool, true, false, cond, List, [], ◌∷◌, map, ℕ, ◌+◌, ◌≤◌, ◌<◌, ℤ, length, drop, get_or, set}
-use Rattle.std.proofs.Common.{sym, ap, ◌∙◌, arith, length-drop, get_or-drop, drop-drop, drop_of_length-le}
+-- What the loop over the numbered lines goes through: pairs of a line and its number, of which those that hold a value are the file's
+-- value lines; and the list with one value more and at the end. Assumes nothing.
+use Rattle.std.specs.Prelude.{◌≡◌, refl, Option, Bool, true, false, cond, List, [], ◌∷◌, map, ℕ, zero, suc, ◌+◌, ◌-◌, ◌≤◌, ◌<◌, ℤ, length, get_or, set, filter}
+use Rattle.std.specs.List.{zip, range_with_len, enumerate_from, onto_first}
+use Rattle.std.proofs.Common.{add-one, subst, sym, ap, ◌∙◌, eqb, arith}
+use Rattle.std.proofs.lemmas.Iterator.{YieldsList}
+use Rattle.std.proofs.lemmas.Iterator.Consumers.{YieldsList-from_shown}
 use Rattle.std.proofs.lemmas.List.{length-map}
+use Rattle.std.proofs.lemmas.List.FromFn.{length-enumerate_from, get_or-enumerate_from}
 use Rattle.std.proofs.Math.ListN.{get_or-map}
-use Rattle.value_lines.specs.Meaning.{is_value, ValueLine, value_line, values_from, values_of, line_number, raw_at, number_at}
-use Rattle.value_lines.specs.Held.{Held, held_none, held_more, held_all}
+use Rattle.std.specs.declared.ops.RangeInclusive.{RangeInclusive}
+use Rattle.std.specs.Range.{range_inclusive_start, range_inclusive_end, range_inclusive_exhausted, range_inclusive_len, range_inclusive_left, range_inclusive_steps}
+use Rattle.value_lines.specs.Meaning.{file_limit, line_feed, is_value, ValueLine, value_line, values_from, values_of, line_number, raw_at, number_at}
+use Rattle.value_lines.specs.Held.{Held, held_more, held_all}
+use Rattle.value_lines.specs.Store.{AllEntered}
 use Rattle.value_lines.specs.Lines.{parts_of}
-use Rattle.value_lines.proofs.Lines.{parts-values, at_value, at-skip}
-use Rattle.value_lines.specs.Store.{Entered, AllEntered, SoFar}
+use Rattle.value_lines.proofs.Lines.{parts-values}
 
--- no line is through
-pub start : (file lines : List ℕ) (raws : List ℤ) (answers : List ℕ) → SoFar file lines raws answers lines raws answers 0 0
-unfolding values_of
-start file lines raws answers =
-    record {
-      few = omega arith;
-      left = sym (parts-values 1 file);
-      lines-hold = held_none _ _;
-      raws-hold = held_none _ _;
-      answers-hold = held_none _ _;
-    }
+-- ---- `a..=b` gives the numbers from a on
+abbrev gap : ℕ → ℕ → ℕ
+gap x y = y - x
 
--- the next value, where some are left
-next_here : (vs : List ValueLine) (n : ℕ) (v : ValueLine) (rest : List ValueLine) → drop n vs ≡ v ∷ rest → n ≤ length vs → n < length vs
-next_here vs n v rest e h = omega (arith, ap length e, length-drop n vs)
+abbrev pub up_steps : RangeInclusive ℕ → Option ℕ → RangeInclusive ℕ → Type 0
+up_steps = range_inclusive_steps gap (λ x y. y ≡ x + 1)
 
-next-is : (vs : List ValueLine) (n : ℕ) (v d : ValueLine) (rest : List ValueLine) → drop n vs ≡ v ∷ rest → v ≡ get_or vs n d
-next-is vs n v d rest e = sym (ap (λ (l : List ValueLine). get_or l 0 d) e) ∙ get_or-drop n vs 0 d ∙ ap (λ (i : ℕ). get_or vs i d) (omega arith)
+abbrev left : RangeInclusive ℕ → List ℕ
+left s = range_with_len (range_inclusive_start s) (range_inclusive_left gap s)
 
-next-rest : (vs : List ValueLine) (n : ℕ) (v : ValueLine) (rest : List ValueLine) → drop n vs ≡ v ∷ rest → drop (n + 1) vs ≡ rest
-next-rest vs n v rest e = sym (drop-drop 1 n vs) ∙ ap (drop 1) e
+spent : (s : RangeInclusive ℕ) → range_inclusive_exhausted s ≡ true → range_inclusive_left gap s ≡ 0
+spent s e = ap (range_inclusive_len gap (range_inclusive_start s) (range_inclusive_end s)) e
 
-abbrev blank : ValueLine
-blank = value_line 0 []
+fresh : (s : RangeInclusive ℕ) → range_inclusive_exhausted s ≡ false → range_inclusive_left gap s ≡ range_inclusive_end s + 1 - range_inclusive_start s
+fresh s e = omega (arith, ap (range_inclusive_len gap (range_inclusive_start s) (range_inclusive_end s)) e)
 
-module _ {B : Type 0} (f : ValueLine → B) (vs : List ValueLine) (n : ℕ) (v : ValueLine) (rest : List ValueLine) {before after : List B}
-    (h : Held (map f vs) n before after) (e : drop n vs ≡ v ∷ rest) (few : n ≤ length vs) (room : length vs ≤ length before) where
-  held-value : Held (map f vs) (n + 1) before (set after n (f v))
-  held-value =
-      let here = next_here vs n v rest e few in
-      let there : n < length (map f vs) = rw (length-map vs f) here in
-      held_more h (f blank) (f v) there (omega arith) (ap f (next-is vs n v blank rest e) ∙ sym (get_or-map f vs n blank))
+next-left : (s t : RangeInclusive ℕ) (x n : ℕ) → n ≡ range_inclusive_left gap t → n + 1 ≡ range_inclusive_left gap s → x ≡ range_inclusive_start s
+    → (range_inclusive_exhausted t ≡ false → range_inclusive_start t ≡ range_inclusive_start s + 1) → left s ≡ x ∷ left t
+next-left s t x n e f g h = go (range_inclusive_exhausted t) refl n e f
+  where
+    go : (b : Bool) → range_inclusive_exhausted t ≡ b → (n : ℕ) → n ≡ range_inclusive_left gap t → n + 1 ≡ range_inclusive_left gap s → left s ≡ x ∷ left t
+    go true b zero e f = rw (← f, ← e, g) refl
+    go true b (suc n) e f = absurd (omega (arith, e, spent t b))
+    go false b n e f = rw (← f, ← e, g, h b, add-one) refl
 
-module _ (file lines : List ℕ) (raws : List ℤ) (answers lines' : List ℕ) (raws' : List ℤ) (answers' : List ℕ) (n number : ℕ)
-    (s : SoFar file lines raws answers lines' raws' answers' n number) where
-  -- a value line has a place
-  pub has-place : {line : List ℕ} → number < length (parts_of file) → line ≡ get_or (parts_of file) number line → is_value line ≡ true → n < length (values_of file)
-  has-place here is e = next_here (values_of file) n _ _ (s.left ∙ at_value (parts_of file) number (number + 1) here is e) s.few
+pub inclusive : {s : RangeInclusive ℕ} (a b n : ℕ) → range_inclusive_start s ≡ a → range_inclusive_end s ≡ b → range_inclusive_exhausted s ≡ false
+    → b + 1 - a ≡ n → YieldsList up_steps (λ x. x) s (range_with_len a n)
+inclusive {s} a b n e f g h =
+    let count : range_inclusive_left gap s ≡ n = omega (arith, fresh s g, e, f, h) in
+    let all : left s ≡ range_with_len a n = ap (λ (k : ℕ). range_with_len k (range_inclusive_left gap s)) e ∙ ap (range_with_len a) count in
+    subst (λ (l : List ℕ). YieldsList up_steps (λ x. x) s l) all (YieldsList-from_shown up_steps (λ x. x) left
+    (λ t u k. ap (λ m. length (range_with_len (range_inclusive_start t) m)) k.1.0)
+    (λ t x u k. next-left t u x (range_inclusive_left gap u) refl k.1.1 k.1.0 k.1.2) s)
 
-  module _ (room : length (values_of file) ≤ length lines) (room-raws : length (values_of file) ≤ length raws)
-      (room-answers : length (values_of file) ≤ length answers)
-      {line : List ℕ} (here : number < length (parts_of file)) (is : line ≡ get_or (parts_of file) number line) where
-    more-value : is_value line ≡ true
-        → SoFar file lines raws answers (set lines' n (number + 1)) (set raws' n (raw_at (value_line (number + 1) line))) (set answers' n (number_at (value_line (number + 1) line))) (n + 1) (number + 1)
-    more-value e =
-        let left = s.left ∙ at_value (parts_of file) number (number + 1) here is e in
-        let vs = values_of file in
-        let v = value_line (number + 1) line in
-        record {
-          few = omega (arith, next_here vs n v _ left s.few);
-          left = next-rest vs n v _ left;
-          lines-hold = held-value line_number vs n v _ s.lines-hold left s.few room;
-          raws-hold = held-value raw_at vs n v _ s.raws-hold left s.few room-raws;
-          answers-hold = held-value number_at vs n v _ s.answers-hold left s.few room-answers;
-        }
+-- ---- the lines with their numbers
+abbrev pub numbered : List ℕ × ℕ → ValueLine
+numbered p = value_line p.1 p.0
 
-    more-skip : is_value line ≡ false → SoFar file lines raws answers lines' raws' answers' n (number + 1)
-    more-skip e =
-        record {
-          few = s.few;
-          left = s.left ∙ at-skip (parts_of file) number (number + 1) here is e;
-          lines-hold = s.lines-hold;
-          raws-hold = s.raws-hold;
-          answers-hold = s.answers-hold;
-        }
+abbrev pub holds_value : List ℕ × ℕ → Bool
+holds_value p = is_value p.0
 
-    pub more : {l : List ℕ} {r : List ℤ} {a : List ℕ} {next : ℕ} → Entered line (number + 1) n lines' raws' answers' l r a next
-        → SoFar file lines raws answers l r a next (number + 1)
-    more {l} {r} {a} {next} t = go (is_value line) refl t.lines_are t.raws-are t.answers-are t.next-is
-      where
-        go : (b : Bool) → is_value line ≡ b → l ≡ cond b (set lines' n (number + 1)) lines' → r ≡ cond b (set raws' n (raw_at (value_line (number + 1) line))) raws'
-            → a ≡ cond b (set answers' n (number_at (value_line (number + 1) line))) answers' → next ≡ cond b (n + 1) n
-            → SoFar file lines raws answers l r a next (number + 1)
-        go true e p q u w = rw (p, q, u, w) (more-value e)
-        go false e p q u w = rw (p, q, u, w) (more-skip e)
+numbered-from : (n m : ℕ) (lines : List (List ℕ)) → length lines ≤ m → map numbered (filter holds_value (zip lines (range_with_len n m))) ≡ values_from n lines
+unfolding values_from
+numbered-from n m [] h = refl
+numbered-from n zero (line ∷ lines) h = absurd (omega arith)
+numbered-from n (suc m) (line ∷ lines) h = go (is_value line) (filter holds_value (zip lines (range_with_len (n + 1) m))) (numbered-from (n + 1) m lines (omega arith))
+  where
+    go : (b : Bool) (rest : List (List ℕ × ℕ)) → map numbered rest ≡ values_from (n + 1) lines
+        → map numbered (cond b ((line, n) ∷ rest) rest) ≡ cond b (value_line n line ∷ values_from (n + 1) lines) (values_from (n + 1) lines)
+    go true rest h = ap (λ (l : List ValueLine). value_line n line ∷ l) h
+    go false rest h = h
 
-  pub end : length (parts_of file) ≤ number → AllEntered (values_of file) lines raws answers lines' raws' answers'
-  unfolding values_from
-  end h =
-      let none = s.left ∙ ap (values_from (number + 1)) (drop_of_length-le (parts_of file) {i = number} h) in
-      let vs = values_of file in
-      let all : n ≡ length vs = omega (arith, ap length none, length-drop n vs, s.few) in
-      record {
-        lines_are = held_all s.lines-hold (rw (length-map vs line_number) all);
-        raws-are = held_all s.raws-hold (rw (length-map vs raw_at) all);
-        answers-are = held_all s.answers-hold (rw (length-map vs number_at) all);
-      }
+few_parts : (file : List ℕ) → length (parts_of file) ≤ length file + 1
+few_parts [] = omega arith
+few_parts (b ∷ file) = go (eqb b line_feed) (parts_of file) (few_parts file)
+  where
+    go : (e : Bool) (parts : List (List ℕ)) → length parts ≤ length file + 1 → length (cond e ([] ∷ parts) (onto_first b parts)) ≤ suc (length file) + 1
+    go true parts h = omega (arith, h)
+    go false [] h = omega arith
+    go false (line ∷ parts) h = omega (arith, h)
+
+-- `1..=u32::MAX`, more than a file has lines
+abbrev pub numbers : ℕ
+numbers = 4294967295
+
+-- what the loop goes through
+module _ (file : List ℕ) (short : length file ≤ file_limit) where
+  abbrev pairs : List (List ℕ × ℕ)
+  pairs = filter holds_value (zip (parts_of file) (range_with_len 1 numbers))
+
+  abbrev turns : List (ℕ × (List ℕ × ℕ))
+  turns = enumerate_from 0 pairs
+
+  same : map numbered pairs ≡ values_of file
+  unfolding values_of
+  same = numbered-from 1 numbers (parts_of file) (omega (arith, short, few_parts file)) ∙ parts-values 1 file
+
+  count : length turns ≡ length (values_of file)
+  count = length-enumerate_from 0 pairs ∙ sym (length-map pairs numbered) ∙ ap length same
+
+  -- turn i is at place i
+  abbrev pub Turn : ℕ → ℕ → ℕ → List ℕ → Type 0
+  Turn i n number line = (i < length turns) × ◌≡◌ {A = ℕ × (List ℕ × ℕ)} (n, (line, number)) (get_or turns i (n, (line, number)))
+
+  -- it has the value there
+  module _ {i n number : ℕ} {line : List ℕ} (turn : Turn i n number line) where
+    some-left : i < length (values_of file)
+    some-left = omega (arith, turn.0, count)
+
+    place : ◌≡◌ {A = ℕ × (List ℕ × ℕ)} (n, (line, number)) (0 + i, get_or pairs i (line, number))
+    place = turn.1 ∙ get_or-enumerate_from 0 pairs i (n, (line, number)) (omega (arith, turn.0, length-enumerate_from 0 pairs))
+
+    place-is : n ≡ i
+    place-is = omega (arith, ap (λ (p : ℕ × (List ℕ × ℕ)). p.0) place)
+
+    pub here : n < length (values_of file)
+    here = rw place-is some-left
+
+    value-is : value_line number line ≡ get_or (values_of file) i (value_line number line)
+    value-is = ap (λ (p : ℕ × (List ℕ × ℕ)). numbered p.1) place ∙ sym (get_or-map numbered pairs i (line, number))
+        ∙ ap (λ (l : List ValueLine). get_or l i (value_line number line)) same
+
+    pub held_turn : {B : Type 0} (f : ValueLine → B) {before after : List B} {k : ℕ} {b : B} → Held (map f (values_of file)) i before after
+        → length (values_of file) ≤ length before → k ≡ i + 1 → b ≡ f (value_line number line)
+        → Held (map f (values_of file)) k before (set after n b)
+    held_turn f h room e is =
+        let there : i < length (map f (values_of file)) = rw (length-map (values_of file) f) some-left in
+        rw (e, is, place-is) (held_more h (f (value_line number line)) (f (value_line number line)) there (omega (arith, some-left, room))
+        (ap f value-is ∙ sym (get_or-map f (values_of file) i (value_line number line))))
+
+  -- behind the loop all values are in the list
+  pub all_turns : (i : ℕ) → i ≡ length turns → {lines : List ℕ} {raws : List ℤ} {answers lines' : List ℕ} {raws' : List ℤ} {answers' : List ℕ}
+      → Held (map line_number (values_of file)) i lines lines' → Held (map raw_at (values_of file)) i raws raws'
+      → Held (map number_at (values_of file)) i answers answers' → AllEntered (values_of file) lines raws answers lines' raws' answers'
+  all_turns i end l r a = record {
+    lines_are = held_all l (end ∙ count ∙ sym (length-map (values_of file) line_number));
+    raws-are = held_all r (end ∙ count ∙ sym (length-map (values_of file) raw_at));
+    answers-are = held_all a (end ∙ count ∙ sym (length-map (values_of file) number_at));
+  }

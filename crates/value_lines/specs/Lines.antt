@@ -1,7 +1,7 @@
 -- The lines of a file as the code cuts it: the parts between LFs. They are the meaning's lines, but for an empty one that may come last. Assumes nothing.
-use Rattle.std.specs.Prelude.{◌≡◌, refl, ◌⊎◌, Bool, true, false, cond, not, List, [], ◌∷◌, ◌++◌, ℕ, ◌+◌, eqb, length, get_or}
+use Rattle.std.specs.Prelude.{◌≡◌, refl, ◌⊎◌, Bool, true, false, cond, List, [], ◌∷◌, ◌++◌, ℕ, ◌+◌, ◌≤◌, ◌<◌, eqb, length, get_or}
 use Rattle.std.specs.List.{slice_split, onto_first}
-use Rattle.std.proofs.Common.{ap, ◌∙◌, inl, inr, arith}
+use Rattle.std.proofs.Common.{ap, ◌∙◌, inl, inr, arith, ne_eqb}
 use Rattle.value_lines.specs.Meaning.{line_feed, hash, onto, lines_of, is_value, value_line, values_from}
 
 abbrev pub parts_of : List ℕ → List (List ℕ)
@@ -38,12 +38,17 @@ unfolding values_from
 value-skip n line lines e = rw e
 
 -- ---- whether a line holds a value, as the code asks
-pub value_none : (line : List ℕ) → length line ≡ 0 → false ≡ is_value line
+pub value_none : (line : List ℕ) → length line < 1 → false ≡ is_value line
 unfolding is_value
-value_none [] e = refl
-value_none (b ∷ line) e = absurd (omega arith)
+value_none [] h = refl
+value_none (b ∷ line) h = absurd (omega arith)
 
-pub value-first : (line : List ℕ) → (length line ≡ 0 → ⊥) → not (eqb (get_or line 0 0) hash) ≡ is_value line
+pub value-hash : (line : List ℕ) → 1 ≤ length line → get_or line 0 0 ≡ hash → false ≡ is_value line
 unfolding is_value
-value-first [] n = absurd (n refl)
-value-first (b ∷ line) n = refl
+value-hash [] h e = absurd (omega arith)
+value-hash (b ∷ line) h e = rw e refl
+
+pub value-other : (line : List ℕ) → 1 ≤ length line → (get_or line 0 0 ≡ hash → ⊥) → true ≡ is_value line
+unfolding is_value
+value-other [] h n = absurd (omega arith)
+value-other (b ∷ line) h n = rw (ne_eqb b hash n) refl

@@ -5,8 +5,6 @@ ghost use Rattle.value_lines.specs.Literal.{line_value};
 
 use format::Refusal;
 
-const COMMENT: u8 = b'#';
-
 // I1F15
 const WIDTH: u32 = 16;
 
@@ -16,10 +14,7 @@ const FRAC: u32 = 15;
 pub(crate) fn is_value(line: &[u8]) -> bool
     ensures { result ≡ is_value line.now }
 {
-    match line {
-        [] => false,
-        [first, ..] => *first != COMMENT,
-    }
+    !matches!(line, [] | [b'#', ..])
 }
 
 // The literal of a line. A strict raw of 16 bits loses nothing as one.
