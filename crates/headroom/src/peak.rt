@@ -33,18 +33,18 @@ fn driven(way: Way, tap: i16) -> i16
     ensures { result ≡ driven_of way tap }
 {
     match way {
-        Way::High => by_sign(tap, 32767, -32768),
-        Way::Low => by_sign(tap, -32768, 32767),
+        Way::High => by_sign(tap, i16::MAX, i16::MIN),
+        Way::Low => by_sign(tap, i16::MIN, i16::MAX),
     }
 }
 
 // Those samples for each tap, in a line of the filter's.
-fn drive(way: Way, taps: &[i16]) -> [i16; TAPS]
-    requires { length taps.now ≤ most_taps }
+fn drive(way: Way, taps: &Taps<'_>) -> [i16; TAPS]
     ensures { take (length taps.now) result ≡ map (driven_of way) taps.now }
 {
     let mut line = [0i16; TAPS];
-    for (i, tap) in taps.iter().enumerate() {
+    // by the tap's place: of what a `zip` over `iter_mut` writes, std's clauses say only how many places there are
+    for (i, tap) in taps.raws().iter().enumerate() {
         line[i] = driven(way, *tap);
     }
     line
@@ -55,8 +55,8 @@ fn passes(way: Way, y: i64) -> bool
     ensures { result ≡ passes way y }
 {
     match way {
-        Way::High => 32767 < y,
-        Way::Low => y < -32768,
+        Way::High => i64::from(i16::MAX) < y,
+        Way::Low => y < i64::from(i16::MIN),
     }
 }
 
@@ -67,8 +67,8 @@ fn clips(way: Way, taps: &Taps<'_>, witness: &mut [i16]) -> bool
     ensures way { result ≡ clips_way way taps.now }
     ensures witness { witness.new ≡ cond (clips_way way taps.now) (driving way taps.now) witness.old }
 {
-    let taps = taps.raws();
     let line = drive(way, taps);
+    let taps = taps.raws();
     let clips = passes(way, sum::level(taps, &line));
     if clips {
         witness.copy_from_slice(&line[..taps.len()]);

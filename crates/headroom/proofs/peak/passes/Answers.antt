@@ -7,8 +7,8 @@ use Rattle.headroom.proofs.peak.passes.Goals as goal
 
 pub returns-in-High : goal.returns-in-High
 unfolding passes highest
-returns-in-High c = rw (c.in-High.is, to_z-of_z {w = w64} c.ranges.y) refl
+returns-in-High c = rw (c.in-High.is, c.from.ensures, to_z-of_z {w = w64} c.ranges.y) refl
 
 pub returns-in-Low : goal.returns-in-Low
 unfolding passes lowest
-returns-in-Low c = rw (c.in-Low.is, to_z-of_z {w = w64} c.ranges.y) refl
+returns-in-Low c = rw (c.in-Low.is, c.from-in-Low.ensures, to_z-of_z {w = w64} c.ranges.y) refl
