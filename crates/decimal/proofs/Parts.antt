@@ -2,7 +2,7 @@
 use mathlib.Core.Path.{◌≡◌, refl, sym, ap, ap₂, ◌∙◌}
 use mathlib.Core.Bool.{Bool, true, false, cond}
 use mathlib.Core.List.{List, [], ◌∷◌, ◌++◌, map, append_assoc, append-nil}
-use Prim.Native.Nat.{ℕ, ◌+◌, ◌-◌, ◌*◌, ◌/◌, ◌%◌, ◌^◌, ◌≤◌, ◌<◌}
+use Prim.Native.Nat.{ℕ, ◌+◌, ◌-◌, ◌*◌, ◌%◌, ◌^◌, ◌≤◌, ◌<◌}
 use native.Mathlib.Nat.{mul-pos}
 use native.Mathlib.Omega.{arith}
 use lib.Dec.{eqb}
@@ -13,25 +13,14 @@ use Rattle.decimal.specs.Digits.{mod-scale, fraction-scale, ends-start, ends-sca
 use Rattle.decimal.specs.Layout.{Ends, word_text}
 use Rattle.format.specs.Meaning.{is_width}
 use Rattle.format.specs.Fault.{width-bounds}
-use Rattle.std.proofs.Math.Nat.{div-eq_of_lt}
-use Rattle.std.specs.Prelude.{Option, Some, None}
-use Rattle.std.specs.Option.{SomeIff, unwrap_or}
-use Rattle.std.proofs.Common.{pow_mono, lt_of_lt_of_le}
 
--- ---- what a format's fraction bits are at most, and past them nothing is left of a word
+-- ---- what a format's fraction bits are at most
 pub frac-word : {w f : ℕ} → is_width w ≡ true → f ≤ w → f ≤ 64
 frac-word {w} h l = omega (arith, width-bounds w h)
-
-pub shifted : (m f : ℕ) → m < 2 ^ 64 → (o : Option ℕ) → SomeIff o (f < 64) (m / 2 ^ f) → unwrap_or o 0 ≡ m / 2 ^ f
-shifted m f h (Some x) s = s.1
-shifted m f h None s = let l : 64 ≤ f = omega (arith, s) in sym (div-eq_of_lt (lt_of_lt_of_le h (pow_mono {i = 64} {j = f} l)))
 
 -- ---- the fraction as a fraction of 64 bits
 full : (f : ℕ) → f ≤ 64 → 2 ^ f * 2 ^ (64 - f) ≡ 2 ^ 64
 full f h = let e : f + (64 - f) ≡ 64 = omega arith in sym (pow-add 2 f (64 - f)) ∙ ap (λ (k : ℕ). 2 ^ k) e
-
-pub scaled-none : (m f : ℕ) → f ≡ 0 → 0 ≡ m % 2 ^ f * 2 ^ (64 - f)
-scaled-none m f e = let one : m % 2 ^ f ≡ 0 = ap (λ (k : ℕ). m % 2 ^ k) e ∙ omega arith in sym (ap (λ (v : ℕ). v * 2 ^ (64 - f)) one ∙ omega arith)
 
 pub scaled-some : (m f : ℕ) → f ≤ 64 → m * 2 ^ (64 - f) % 2 ^ 64 ≡ m % 2 ^ f * 2 ^ (64 - f)
 scaled-some m f h = ap (λ (v : ℕ). m * 2 ^ (64 - f) % v) (sym (full f h)) ∙ mod-scale m (2 ^ f) (2 ^ (64 - f)) (pow_pos (64 - f))

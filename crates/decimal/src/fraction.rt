@@ -16,19 +16,15 @@ pub(crate) fn write(text: &mut Layout, magnitude: u64, format: Format)
     digits(text, scaled(magnitude, format), format.frac);
 }
 
-// The fraction as a fraction of 64 bits: the shift drops the whole part. A shift by 64 must not occur.
-// Not by `checked_shl`, as `whole::part`: tried, the writer of whole numbers takes 4 percent longer.
+// The fraction as a fraction of 64 bits: the shift drops the whole part.
 fn scaled(magnitude: u64, format: Format) -> u64
     ensures { result ≡ magnitude % 2 ^ format.frac * 2 ^ (64 - format.frac) }
 {
-    if format.frac == 0 {
-        return 0;
-    }
-    magnitude << (64 - format.frac)
+    magnitude.unbounded_shl(64 - format.frac)
 }
 
 // The digits of fraction / 2^64, two at a time: the word above a hundred times what is left, until nothing is left.
-// Where the number of digits is odd, the last pair has a zero to spare.
+// Where the number of digits is odd, the last pair has a zero to spare. `frac` is for the clauses alone: how many digits.
 fn digits(text: &mut Layout, fraction: u64, frac: u32)
     requires bits { frac ≤ 64 }
     requires room { text.old.end ≤ POINT }

@@ -7,7 +7,8 @@ pub(crate) const POINT: usize = 21;
 
 pub(crate) const PLACES: usize = 87;
 
-// The text stands from `start` to `end`. The places are lent, so that the compiler keeps both ends in registers.
+// The text stands from `start` to `end` of fixed places: there is no heap for a `String`. The places are lent, so that
+// the compiler keeps both ends in registers.
 #[derive(Drop)]
 pub(crate) struct Layout<'a> {
     places: &'a mut [u8; PLACES],

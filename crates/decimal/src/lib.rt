@@ -1,4 +1,5 @@
 // The exact writer of document 01, module 6: a raw as the decimal text of its number.
+// A format comes as its two numbers: each entry refuses what is none.
 #![tactic(auto)]
 
 ghost use Rattle.std.specs.Prelude.{◌≡◌, ◌<◌};
@@ -15,6 +16,7 @@ mod whole;
 
 // The text of raw / 2^frac into `out`; done with the number of bytes written. Refused: 1 and 2 for the
 // format, then 5 where `out` is shorter than the text. Nothing is written before the length is known.
+// By a test of the length: behind `out.get_mut(..count)`, tried, a proof knows how long `out` is and not its bytes.
 pub fn write<R: Raw>(raw: R, width: u32, frac: u32, out: &mut [u8]) -> Answered<u64>
     ensures { Write R.kind raw width frac out.old result out.new }
 {

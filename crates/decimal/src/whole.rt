@@ -18,7 +18,7 @@ pub(crate) fn write(text: &mut Layout, magnitude: u64, frac: u32)
 fn part(magnitude: u64, frac: u32) -> u64
     ensures { result ≡ magnitude / 2 ^ frac }
 {
-    magnitude.checked_shr(frac).unwrap_or(0)
+    magnitude.unbounded_shr(frac)
 }
 
 // The digits of n, from the last one to the first.

@@ -1,4 +1,5 @@
 // f32 and f64 patterns, carried as u32 and u64 integers, into a format: nearest, ties to even.
+// A format comes as its two numbers: each entry refuses what is none.
 #![tactic(auto)]
 
 ghost use Rattle.std.specs.Prelude.{◌≡◌};

@@ -1,4 +1,5 @@
 // The numbers of a format as f32 and f64 patterns, carried as u32 and u64 integers: nearest, ties to even.
+// A format comes as its two numbers: each entry refuses what is none.
 #![tactic(auto)]
 
 ghost use Rattle.std.specs.Prelude.{◌≡◌};
