@@ -7,7 +7,7 @@ use format::Refusal;
 use scan::{Found, Parsed};
 
 #[repr(C)]
-#[derive(Clone, Copy)]
+#[derive(Clone, Copy, Default)]
 pub struct Probe {
     pub number: u32,
     pub radix: u32,
@@ -23,20 +23,12 @@ pub struct Probe {
     pub frac_digits: usize,
 }
 
-fn refused(number: u32, radix: u32) -> Probe {
+// Of a text that is refused nothing stands anywhere.
+fn refused(refusal: Refusal, radix: u32) -> Probe {
     Probe {
-        number,
+        number: refusal.number(),
         radix,
-        neg: 0,
-        base: 0,
-        down: 0,
-        exp: 0,
-        whole_from: 0,
-        whole_to: 0,
-        whole_digits: 0,
-        frac_from: 0,
-        frac_to: 0,
-        frac_digits: 0,
+        ..Probe::default()
     }
 }
 
@@ -60,7 +52,7 @@ fn number(p: Parsed, radix: u32) -> Probe {
 fn shown(found: Found, radix: u32) -> Probe {
     match found {
         Ok(p) => number(p, radix),
-        Err(refusal) => refused(refusal.number(), radix),
+        Err(refusal) => refused(refusal, radix),
     }
 }
 
@@ -69,7 +61,7 @@ pub extern "C" fn probe_plain(text: &[u8], radix: u32) -> Probe {
     if grammar::is_radix(radix) {
         return shown(scan::plain(text, radix), radix);
     }
-    refused(Refusal::WrongRadix.number(), radix)
+    refused(Refusal::WrongRadix, radix)
 }
 
 #[unsafe(no_mangle)]
