@@ -2,76 +2,41 @@
 // first, and how many outputs clip on it, fed oldest first from silence.
 #![tactic(auto)]
 
-use format::Answered;
+use format::Answer;
 use std::io;
 
 fn main(rt: HostRuntime) -> io::Result<()> {
-    rt.print("32767:")?;
-    one(&rt, 32767)?;
-    rt.print("-32768:")?;
-    one(&rt, -32768)?;
-    rt.print("32767 1:")?;
-    two(&rt, 32767, 1)?;
-    rt.print("32767 2:")?;
-    two(&rt, 32767, 2)?;
-    rt.print("16384 -16384:")?;
-    two(&rt, 16384, -16384)?;
-    rt.print("16385 -16383:")?;
-    two(&rt, 16385, -16383)
+    case(&rt, "32767", [32767])?;
+    case(&rt, "-32768", [-32768])?;
+    case(&rt, "32767 1", [32767, 1])?;
+    case(&rt, "32767 2", [32767, 2])?;
+    case(&rt, "16384 -16384", [16384, -16384])?;
+    case(&rt, "16385 -16383", [16385, -16383])
 }
 
-// One tap.
-fn one(rt: &impl Print, tap: i16) -> io::Result<()> {
-    let taps = [tap];
-    let mut witness = [0i16; 1];
-    let verdict = value(headroom::headroom(&taps, &mut witness));
-    print!(rt; " verdict {verdict}")?;
-    if 0 < verdict {
-        sample(rt, witness[0])?;
-        let fed = [witness[0]];
-        clips(rt, &taps, &fed, &mut [0i16; 1], &mut [0u8; 1])?;
+fn case<const N: usize>(rt: &impl Print, name: &str, taps: [i16; N]) -> io::Result<()> {
+    print!(rt; "{name}:")?;
+    let mut witness = [0i16; N];
+    match headroom::headroom(&taps, &mut witness) {
+        Ok(Answer { raw: 0, .. }) => println!(rt; " verdict 0"),
+        Ok(verdict) => {
+            print!(rt; " verdict {}", verdict.raw)?;
+            clipped(rt, &taps, witness)
+        }
+        Err(refusal) => println!(rt; " refused {}", refusal.number()),
     }
-    rt.println("")
 }
 
-// Two taps.
-fn two(rt: &impl Print, first: i16, second: i16) -> io::Result<()> {
-    let taps = [first, second];
-    let mut witness = [0i16; 2];
-    let verdict = value(headroom::headroom(&taps, &mut witness));
-    print!(rt; " verdict {verdict}")?;
-    if 0 < verdict {
-        sample(rt, witness[0])?;
-        sample(rt, witness[1])?;
-        let fed = [witness[1], witness[0]];
-        clips(rt, &taps, &fed, &mut [0i16; 2], &mut [0u8; 2])?;
+// The witness, and how many of the outputs clip.
+fn clipped<const N: usize>(rt: &impl Print, taps: &[i16; N], witness: [i16; N]) -> io::Result<()> {
+    for x in &witness {
+        print!(rt; " {x}")?;
     }
-    rt.println("")
-}
-
-// How many of the outputs clip. The lists stand apart, as `filter::run` takes them.
-fn clips(
-    rt: &impl Print,
-    taps: &[i16],
-    fed: &[i16],
-    outputs: &mut [i16],
-    marks: &mut [u8],
-) -> io::Result<()> {
+    let mut fed = witness;
+    fed.reverse();
     let mut state = filter::silent().samples;
-    let clipped = value(filter::run(taps, &mut state, fed, outputs, marks));
-    print!(rt; ", clipped {clipped}")
-}
-
-// The value of an answer, 99 for a refusal.
-fn value(answer: Answered<u64>) -> u64 {
-    answer.map_or(99, |answer| answer.raw)
-}
-
-// A sample of a witness: one of the ends.
-fn sample(rt: &impl Print, x: i16) -> io::Result<()> {
-    match x {
-        32767 => rt.print(" 32767"),
-        -32768 => rt.print(" -32768"),
-        _ => rt.print(" ?"),
+    match filter::run(taps, &mut state, &fed, &mut [0i16; N], &mut [0u8; N]) {
+        Ok(count) => println!(rt; ", clipped {}", count.raw),
+        Err(refusal) => println!(rt; ", refused {}", refusal.number()),
     }
 }
