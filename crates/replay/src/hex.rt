@@ -1,9 +1,12 @@
 // The text of a line, two hexadecimal digits a byte.
 ghost use Rattle.std.specs.Prelude.{◌≤◌};
 
+use grammar::byte;
+
 // A little more than the longest text that is read, so that a longer one can be stored.
 const ROOM: usize = 4100;
 
+// A buffer and how much of it counts: no `Vec`, since nothing here is on the heap.
 #[derive(Drop)]
 pub(crate) struct Text {
     bytes: [u8; ROOM],
@@ -27,7 +30,7 @@ impl Text {
         let at = self.digits / 2;
         // The first digit of a byte stands alone, the second joins it.
         self.bytes[at] = if self.digits % 2 == 1 {
-            pair(self.bytes[at], value(b))
+            self.bytes[at] << 4 | value(b)
         } else {
             value(b)
         };
@@ -39,18 +42,7 @@ impl Text {
     }
 }
 
-fn pair(high: u8, low: u8) -> u8 {
-    if high < 16 && low < 16 {
-        high * 16 + low
-    } else {
-        0
-    }
-}
-
+// What is no digit, 16 of `digit_of`, counts as 0.
 fn value(b: u8) -> u8 {
-    match b {
-        b'0'..=b'9' => b - b'0',
-        b'a'..=b'f' => b - b'a' + 10,
-        _ => 0,
-    }
+    (byte::digit_of(b) % 16) as u8
 }

@@ -14,9 +14,6 @@ pub(crate) const FRAC: usize = 2;
 // How many numbers a line has at most; what follows is the text.
 const NUMBERS: usize = 8;
 
-// The greatest number whose tenfold is a word.
-const TENTH: u64 = 1844674407370955161;
-
 // A number by its magnitude, as the raws of both signs are compared. The flag is a sign, so this is no Option.
 #[derive(Clone, Copy, PartialEq, Eq)]
 pub(crate) struct Number {
@@ -79,11 +76,11 @@ impl Number {
                 ..self
             };
         }
-        let size = if self.size <= TENTH {
-            (self.size * 10).wrapping_add(u64::from(b.saturating_sub(b'0')))
-        } else {
-            0
-        };
+        let digit = u64::from(b.saturating_sub(b'0'));
+        let size = self
+            .size
+            .checked_mul(10)
+            .map_or(0, |tens| tens.wrapping_add(digit));
         Number { size, ..self }
     }
 
