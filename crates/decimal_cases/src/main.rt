@@ -9,25 +9,26 @@ use std::io;
 
 fn main(rt: HostRuntime) -> io::Result<()> {
     line(&rt, 1i64, 16, 15)?;
-    ends(&rt, 8, -128, 127, 255)?;
-    ends(&rt, 16, -32768, 32767, 65535)?;
-    ends(&rt, 32, -2147483648, 2147483647, 4294967295)?;
-    ends(
-        &rt,
-        64,
-        -9223372036854775808,
-        9223372036854775807,
-        18446744073709551615,
-    )?;
+    ends(&rt, 8, i8::MIN, i8::MAX, u8::MAX)?;
+    ends(&rt, 16, i16::MIN, i16::MAX, u16::MAX)?;
+    ends(&rt, 32, i32::MIN, i32::MAX, u32::MAX)?;
+    ends(&rt, 64, i64::MIN, i64::MAX, u64::MAX)?;
     every_frac(&rt)?;
     buffers(&rt)?;
     refusals(&rt)
 }
 
 // The ends of the formats of one width.
-fn ends(rt: &impl Print, width: u32, low: i64, high: i64, top: u64) -> io::Result<()>
+fn ends<I: Into<i64>, U: Into<u64>>(
+    rt: &impl Print,
+    width: u32,
+    low: I,
+    high: I,
+    top: U,
+) -> io::Result<()>
     requires { width ≤ 64 }
 {
+    let (low, high, top) = (low.into(), high.into(), top.into());
     for frac in 0..=width {
         line(rt, low, width, frac)?;
         line(rt, high, width, frac)?;
