@@ -5,45 +5,39 @@
 use std::io;
 use std::rt::Files;
 
-fn main(rt: HostRuntime) -> io::Result<()> {
-    taken(&rt)?;
-    refused(&rt)?;
-    refused_lines(&rt)?;
-    no_file(&rt)
-}
-
-fn taken(rt: &(impl Files + Print + Eprint)) -> io::Result<()> {
-    one(rt, "good.txt")?;
-    one(rt, "no_final_lf.txt")?;
-    one(rt, "clips_high.txt")?;
-    one(rt, "just_clips.txt")?;
-    one(rt, "just_fits.txt")?;
-    one(rt, "sixty_four.txt")?;
-    one(rt, "16384_bytes.txt")
-}
+const TAKEN: [&str; 7] = [
+    "good.txt",
+    "no_final_lf.txt",
+    "clips_high.txt",
+    "just_clips.txt",
+    "just_fits.txt",
+    "sixty_four.txt",
+    "16384_bytes.txt",
+];
 
 // The file as a whole.
-fn refused(rt: &(impl Files + Print + Eprint)) -> io::Result<()> {
-    one(rt, "16385_bytes.txt")?;
-    one(rt, "sixty_five.txt")?;
-    one(rt, "empty.txt")?;
-    one(rt, "comments.txt")
+const REFUSED: [&str; 4] = [
+    "16385_bytes.txt",
+    "sixty_five.txt",
+    "empty.txt",
+    "comments.txt",
+];
+
+const REFUSED_LINES: [&str; 4] = ["crlf.txt", "nul.txt", "long_line.txt", "refused.txt"];
+
+const NO_FILE: [&str; 3] = ["missing.txt", ".", ""];
+
+fn main(rt: HostRuntime) -> io::Result<()> {
+    each(&rt, &TAKEN)?;
+    each(&rt, &REFUSED)?;
+    each(&rt, &REFUSED_LINES)?;
+    each(&rt, &NO_FILE)
 }
 
-fn refused_lines(rt: &(impl Files + Print + Eprint)) -> io::Result<()> {
-    one(rt, "crlf.txt")?;
-    one(rt, "nul.txt")?;
-    one(rt, "long_line.txt")?;
-    one(rt, "refused.txt")
-}
-
-fn no_file(rt: &(impl Files + Print + Eprint)) -> io::Result<()> {
-    one(rt, "missing.txt")?;
-    one(rt, ".")?;
-    one(rt, "")
-}
-
-fn one(rt: &(impl Files + Print + Eprint), name: &str) -> io::Result<()> {
-    println!(rt; "== {name}")?;
-    report::file(rt, name.as_bytes())
+fn each(rt: &(impl Files + Print + Eprint), names: &[&str]) -> io::Result<()> {
+    for name in names {
+        println!(rt; "== {name}")?;
+        report::file(rt, name.as_bytes())?;
+    }
+    Ok(())
 }

@@ -22,11 +22,16 @@ struct After {
 }
 
 fn main(rt: HostRuntime) -> io::Result<()> {
-    one(&rt, "done.txt")?;
-    one(&rt, "no_final_lf.txt")?;
-    one(&rt, "refused.txt")?;
-    one(&rt, "nine.txt")?;
-    one(&rt, "empty.txt")
+    for name in [
+        "done.txt",
+        "no_final_lf.txt",
+        "refused.txt",
+        "nine.txt",
+        "empty.txt",
+    ] {
+        one(&rt, name)?;
+    }
+    Ok(())
 }
 
 // Every place is marked before the call, so that one that stays as it was is seen.
@@ -43,7 +48,7 @@ fn one(rt: &(impl Files + Print), name: &str) -> io::Result<()> {
 }
 
 // Reads until the buffer is full or the file ends; how many bytes came. What reads to the end in std fills a Vec, and
-// nothing here is on the heap.
+// nothing here is on the heap. Not the `fill` of `report`, which passes an error over and keeps what came.
 fn fill(file: &mut impl Read, buf: &mut [u8]) -> io::Result<usize>
     ensures { IfOk result (λ n. n ≤ length buf.new) }
 {

@@ -64,7 +64,7 @@ fn opened(rt: &(impl Print + Eprint), file: &mut impl Read, name: &[u8]) -> io::
 }
 
 // Reads until the buffer is full, the file ends or reading fails; how many bytes came. What reads to the end in std
-// fills a Vec, and nothing here is on the heap.
+// fills a Vec, and nothing here is on the heap. Not the `fill` of `list_cases`, which answers an error and no count.
 fn fill(file: &mut impl Read, buf: &mut [u8]) -> usize
     ensures { result ≤ length buf.new }
 {

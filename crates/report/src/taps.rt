@@ -3,6 +3,7 @@ use super::out;
 use fitting_list::Entry;
 use std::io;
 
+// I1F15. `value_lines` has the two as well; it is an inner crate of the fitting file, on which `report` does not stand.
 const WIDTH: u32 = 16;
 
 const FRAC: u32 = 15;
