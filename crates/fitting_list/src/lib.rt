@@ -6,7 +6,8 @@ ghost use Rattle.fitting_list.specs.Promise.{ReadsList};
 use filter::TAPS;
 use fitting::{FileAnswer, check, judge};
 
-// A value line: its number, its raw (0 where refused) and its answer (0 where not).
+// A value line: its number, its raw (0 where refused) and its answer (0 where not). No Result: module 9 of document 01
+// asks for line, raw and answer, and `ReadsList` speaks of the three.
 #[derive(Clone, Copy, Debug, PartialEq, Eq)]
 pub struct Entry {
     pub line: u32,
@@ -15,7 +16,7 @@ pub struct Entry {
 }
 
 // The list and the taps as `fitting::read` writes them, with the list as one lent slice of records. The value lines are
-// found in arrays, which `value_lines` and `judge` take as the C interface lends them.
+// found in three arrays: `value_lines::store` and `judge` take three slices, which C lends to `fitting::read`.
 pub fn read_list(file: &[u8], list: &mut [Entry], taps: &mut [i16]) -> FileAnswer
     ensures { ReadsList file.now list.old taps.old result list.new
         taps.new }
