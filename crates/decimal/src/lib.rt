@@ -7,7 +7,7 @@ ghost use Rattle.decimal.specs.Meaning.{byte_of, raw_text};
 ghost use Rattle.decimal.specs.Promise.{Write};
 ghost use Rattle.decimal.specs.Laid.{laid};
 
-use format::{Answer, Answered, Format, Raw, Refusal};
+use format::{Answered, Format, Raw, Refusal};
 use layout::{Layout, PLACES};
 
 mod fraction;
@@ -28,10 +28,7 @@ pub fn write<R: Raw>(raw: R, width: u32, frac: u32, out: &mut [u8]) -> Answered<
     }
     let count = text.len();
     out[..count].copy_from_slice(text);
-    Ok(Answer {
-        raw: count as u64,
-        flag: false,
-    })
+    Ok((count as u64).into())
 }
 
 // The text in its layout.

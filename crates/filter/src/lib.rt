@@ -80,8 +80,5 @@ pub fn run(
     let mut line = Window::new(*state);
     let count = block::through(&taps, &mut line, samples, outputs, clips);
     state.copy_from_slice(line.line());
-    Ok(Answer {
-        raw: count,
-        flag: false,
-    })
+    Ok(count.into())
 }

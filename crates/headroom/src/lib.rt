@@ -7,15 +7,12 @@ ghost use Rattle.headroom.specs.Promise.{Heads};
 mod fault;
 mod peak;
 
-use format::{Answer, Answered};
+use format::Answered;
 
 // Whether any samples can make these taps clip: the verdict, and with 1 or 2 the samples that do, newest first.
 pub fn headroom(taps: &[i16], witness: &mut [i16]) -> Answered<u64>
     ensures { Heads taps.now witness.old result witness.new }
 {
     let taps = fault::headroom(taps, witness.len())?;
-    Ok(Answer {
-        raw: peak::number(peak::verdict(&taps, witness)),
-        flag: false,
-    })
+    Ok(peak::number(peak::verdict(&taps, witness)).into())
 }

@@ -8,7 +8,7 @@ ghost use Rattle.log10.specs.Promise.{Log10};
 
 mod fives;
 
-use format::{Answer, Answered, Format, Raw, Refusal};
+use format::{Answered, Format, Raw, Refusal};
 
 // The greatest k with 10^k <= raw / 2^frac; below one, k is negative. Refused: 1 and 2 for the format, then 32 for zero
 // or a negative number.
@@ -21,10 +21,7 @@ pub fn log10<R: Raw>(raw: R, width: u32, frac: u32) -> Answered<i64>
     if below || size == 0 {
         return Err(Refusal::NotPositive);
     }
-    Ok(Answer {
-        raw: of_positive(size, format),
-        flag: false,
-    })
+    Ok(of_positive(size, format).into())
 }
 
 // k of a value above zero, on either side of one: the raw's leading zeros give a guess, which is k or one less, and one

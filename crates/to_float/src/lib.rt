@@ -13,7 +13,7 @@ mod encode;
 
 use encode::Encoder;
 use float::pattern::Binary;
-use format::{Answer, Answered, Format, Raw};
+use format::{Answered, Format, Raw};
 
 // The pattern of a raw's number, as the answer's value. C has both names, over one body.
 pub fn to_f32<R: Raw>(raw: R, width: u32, frac: u32) -> Answered<u64>
@@ -36,8 +36,5 @@ fn to<R: Raw>(binary: Binary, raw: R, width: u32, frac: u32) -> Answered<u64>
     let encoder = Encoder { binary, format };
     let size = raw.magnitude();
     let neg = raw.is_below();
-    Ok(Answer {
-        raw: encoder.encode(neg, size),
-        flag: false,
-    })
+    Ok(encoder.encode(neg, size).into())
 }

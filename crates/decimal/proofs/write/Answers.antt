@@ -20,5 +20,5 @@ pub returns : goal.returns
 returns g c =
     let raw = g.R.Raw.kind.number_of c.args.raw in
     let o = c.in_ok-format.ensures.ok in
-    copied raw c.args.width c.args.frac c.args.out.now o.free
-    (c.into_text-text.ensures ∙ c.laid_out.ensures ∙ ap (raw_text raw) o.frac_is) c.if-out-text.false c.copy_from_slice.ensures.after
+    rw c.into.ensures (copied raw c.args.width c.args.frac c.args.out.now o.free
+    (c.into_text-text.ensures ∙ c.laid_out.ensures ∙ ap (raw_text raw) o.frac_is) c.if-out-text.false c.copy_from_slice.ensures.after)

@@ -32,5 +32,5 @@ returns c =
     let kept = (none-checked _ c.in_ok-taps.ensures).1 in
     let verdict = rw kept at told.verdict in
     let witness = rw kept at told.witness in
-    same_head (c.number.ensures ∙ verdict) witness
-    ∙ goes_on _ _ (λ (e : Refusal). headed (Err e) c.args.witness.now) _ c.in_ok-taps.ensures
+    rw c.into.ensures (same_head (c.number.ensures ∙ verdict) witness
+    ∙ goes_on _ _ (λ (e : Refusal). headed (Err e) c.args.witness.now) _ c.in_ok-taps.ensures)

@@ -23,6 +23,6 @@ returns-then-below g c =
 
 pub returns : goal.returns
 returns g c =
-    answered-number g.R.Raw.kind c.args.raw c.in_ok-format.ensures.ok
+    rw c.into.ensures (answered-number g.R.Raw.kind c.args.raw c.in_ok-format.ensures.ok
     (sym c.is_below-below.ensures ∙ c.if-below.false) c.magnitude-size.ensures (omega (arith, c.if-size-eq0.false))
-    (ok-back w64 c.of_positive.result c.of_positive.type_inv ∙ c.of_positive.ensures)
+    (ok-back w64 c.of_positive.result c.of_positive.type_inv ∙ c.of_positive.ensures))

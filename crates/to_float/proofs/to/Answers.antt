@@ -10,4 +10,5 @@ returns-in_err-format g c =
 
 pub returns : goal.returns
 returns g c =
-    encoded-answer _ _ _ (g.R.Raw.kind.number_of c.args.raw) c.in_ok-format.ensures.ok c.is_below-neg.ensures c.magnitude-size.ensures c.encode.ensures
+    rw c.into.ensures (encoded-answer _ _ _ (g.R.Raw.kind.number_of c.args.raw) c.in_ok-format.ensures.ok c.is_below-neg.ensures c.magnitude-size.ensures
+    c.encode.ensures)
