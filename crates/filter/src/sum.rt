@@ -20,7 +20,6 @@ fn product(tap: i16, sample: i16) -> i64
 }
 
 // The exact sum of the products.
-// By the tap's place: a `zip` of taps and line was 5 percent slower, even where the line was cut to the taps' length.
 fn dot(taps: &[i16], line: &[i16]) -> i64
     requires few_taps { length taps.now ≤ most_taps }
     requires enough_samples { length taps.now ≤ length line.now }
@@ -28,8 +27,8 @@ fn dot(taps: &[i16], line: &[i16]) -> i64
     ensures bound { nat_abs result ≤ most_taps * 2 ^ 30 }
 {
     let mut sum: i64 = 0;
-    for (i, tap) in taps.iter().enumerate() {
-        sum += product(*tap, line[i]);
+    for (tap, sample) in taps.iter().zip(line) {
+        sum += product(*tap, *sample);
     }
     sum
 }
