@@ -2,7 +2,7 @@
 ghost use Rattle.std.specs.Prelude.{◌≡◌, ◌-◌, ◌^◌, ◌<◌};
 
 // 5^(n - 19) as a fraction, for n below 39: what stands below the bar, and what above. A table: with two calls of
-// `5u64.pow` a logarithm takes one and a half to three times as long. A const is copied at each call.
+// `5u64.pow` a logarithm takes about twice as long. A const is copied at each call.
 static FIVES: [(u64, u64); 39] = [
     (19_073_486_328_125, 1),
     (3_814_697_265_625, 1),

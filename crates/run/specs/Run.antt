@@ -1,6 +1,6 @@
--- The run of digits at a place of a text, and the count that finds its end. Assumes nothing.
+-- The run of digits at a place of a text, and the loop that finds its end. Assumes nothing.
 use Rattle.std.specs.Prelude.{◌≡◌, refl, Bool, true, false, cond, List, [], ◌∷◌, ℕ, suc, ◌+◌, ◌≤◌, ◌<◌, drop, get_or}
-use Rattle.std.proofs.Common.{sym, ◌∙◌, add-one, drop_of_length-le}
+use Rattle.std.proofs.Common.{sym, ap, ◌∙◌, add-one, drop_of_length-le}
 use native.Mathlib.Omega.{arith}
 use Rattle.std.proofs.Math.ListN.{length}
 use Rattle.std.proofs.Math.Seq.{drop-cons}
@@ -19,19 +19,10 @@ run_at t from radix skip =
       digits = length (digits_of (part t from (from + run_len skip radix (drop from t))));
     }
 
--- ---- the rest of a run
-module _ (skip : Bool) (radix : ℕ) where
-  pub more-none : run_more skip radix [] ≡ 0
-  unfolding run_more
-  more-none = refl
-
-  pub more-stop : (b : ℕ) (t : List ℕ) → in_run skip radix b ≡ false → run_more skip radix (b ∷ t) ≡ 0
-  unfolding run_more
-  more-stop b t e = rw e
-
-  pub more-next : (b : ℕ) (t : List ℕ) → in_run skip radix b ≡ true → run_more skip radix (b ∷ t) ≡ run_more skip radix t + 1
-  unfolding run_more
-  more-next b t e = rw (e, add-one)
+-- ---- the loop over a run
+more-none : (skip : Bool) (radix : ℕ) → run_more skip radix [] ≡ 0
+unfolding run_more
+more-none skip radix = refl
 
 -- a run is no longer than what there is
 pub more-fits : (skip : Bool) (radix : ℕ) (t : List ℕ) → run_more skip radix t ≤ length t
@@ -42,6 +33,27 @@ more-fits skip radix (b ∷ t) = go (in_run skip radix b) (more-fits skip radix 
     go : (g : Bool) → run_more skip radix t ≤ length t → cond g (suc (run_more skip radix t)) 0 ≤ length (b ∷ t)
     go true h = omega arith
     go false h = omega arith
+
+module _ (skip : Bool) (radix : ℕ) (t : List ℕ) (i : ℕ) where
+  more_yes : i < length t → in_run skip radix (get_or t i 0) ≡ true → run_more skip radix (drop i t) ≡ suc (run_more skip radix (drop (i + 1) t))
+  unfolding run_more
+  more_yes h e = rw (add-one, drop-cons t i 0 h, e)
+
+  more_no : i < length t → in_run skip radix (get_or t i 0) ≡ false → run_more skip radix (drop i t) ≡ 0
+  unfolding run_more
+  more_no h e = rw (drop-cons t i 0 h, e)
+
+  pub run-next : {w : ℕ} {g : Bool} → i < length t → g ≡ in_run skip radix (get_or t i 0) → g ≡ true → i + run_more skip radix (drop i t) ≡ w
+      → i + 1 + run_more skip radix (drop (i + 1) t) ≡ w
+  run-next h e g inv = omega (arith, more_yes h (sym e ∙ g))
+
+  pub run-stop : {w : ℕ} {g : Bool} → i < length t → g ≡ in_run skip radix (get_or t i 0) → g ≡ false → i + run_more skip radix (drop i t) ≡ w → i ≡ w
+  run-stop h e g inv = omega (arith, more_no h (sym e ∙ g))
+
+  pub run-over : {w : ℕ} → length t ≤ i → i + run_more skip radix (drop i t) ≡ w → i ≡ w
+  run-over h inv =
+      let none : run_more skip radix (drop i t) ≡ 0 = ap (run_more skip radix) (drop_of_length-le t h) ∙ more-none skip radix in
+      omega arith
 
 -- ---- the run at a place, which is where the code finds it
 module _ (t : List ℕ) (from radix : ℕ) (skip : Bool) where

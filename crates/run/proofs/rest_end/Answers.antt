@@ -1,20 +1,32 @@
--- `run::rest_end` meets its contract: the rest of a run has as many bytes as stand before the first that does not go on in it. Assumes nothing.
-use Rattle.std.proofs.Common.{◌≡◌, true, false, ap, sym, ◌∙◌, ◌+◌, rules, tests, take, drop, length, ◌-◌}
-use Rattle.std.proofs.lemmas.Iterator.{YieldsList-from_slice, IsFirst-from_position, index_from_first}
+-- `run::rest_end` meets its contract. The invariant: from here the run ends where it ends from the start. Assumes nothing.
+use Rattle.std.proofs.Common.{rules, ap, arith, length, length-drop}
 use Rattle.std.proofs.lemmas.List.{take_rest}
-use Rattle.grammar.specs.Run.{in_run, run_more}
-use Rattle.run.specs.Run.{more-none, more-stop, more-next}
+use Rattle.grammar.specs.Run.{run_more}
+use Rattle.run.specs.Run.{run-next, run-stop, run-over}
 use Rattle.run.proofs.rest_end.Goals as goal
+
+pub returns-then-not-in_run : goal.returns-then-not-in_run
+returns-then-not-in_run c =
+    let a = c.args in
+    let l = c.loop-i in
+    let w = run-stop a.skip a.radix _ l.i c.loop-i-test.true c.in_run.ensures (search rules) l.invariant in
+    omega (arith, w, ap (run_more a.skip a.radix) (take_rest a.text.now a.from))
+
+pub loop-i-preserved : goal.loop-i-preserved
+loop-i-preserved c = search (rules, run-next)
 
 pub returns : goal.returns
 returns c =
     let a = c.args in
-    let goes = in_run a.skip a.radix in
-    let t = take (length a.text.now - a.from) (drop a.from a.text.now) in
-    let first = IsFirst-from_position _ _ c.position-stop.result (λ b. goes b ≡ false) (λ b. goes b ≡ true) c.position-stop.ensures.ran
-    (YieldsList-from_slice t cc) (λ x q k. search (rules, tests)) (λ x q k. search (rules, tests)) in
-    ap (λ n. a.from + n)
-    (c.unwrap_or.ensures
-    ∙ sym (index_from_first (run_more a.skip a.radix) (λ b. goes b ≡ false) (λ b. goes b ≡ true) (more-none a.skip a.radix)
-    (more-stop a.skip a.radix) (more-next a.skip a.radix) t c.position-stop.result first)
-    ∙ ap (run_more a.skip a.radix) (take_rest a.text.now a.from))
+    let l = c.loop-i in
+    let w = run-over a.skip a.radix _ l.i c.loop-i-test.false l.invariant in
+    omega (
+      arith,
+      w,
+      ap (run_more a.skip a.radix) (take_rest a.text.now a.from),
+      c.loop-i-test.false,
+      l.auto.i-end,
+      ap length (take_rest a.text.now a.from),
+      length-drop a.from a.text.now,
+      c.requires,
+    )
