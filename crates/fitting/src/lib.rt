@@ -17,8 +17,8 @@ pub const FILE_LIMIT: usize = 16384;
 // How many values a file holds; or why it is refused.
 pub type FileAnswer = Result<u32, FileRefusal>;
 
-// A refusal of the whole file; or 42, with the number of the first refused line and the number of its refusal: a number,
-// since `judge` reads it from the list of numbers that C lends.
+// A refusal of the whole file; or 42, with the number of the first refused line and the number of its refusal: a
+// number, since `judge` reads it from the list of numbers that C lends.
 #[derive(Clone, Copy, Debug, PartialEq, Eq)]
 pub enum FileRefusal {
     Whole(Refusal),

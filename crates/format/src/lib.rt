@@ -114,8 +114,8 @@ pub fn settle<R: Raw>(x: Exact, width: u32, frac: u32, manner: Manner) -> Answer
     fit(x, format, manner)
 }
 
-// The same where the format is known to be one. Inlined, as `settle` is: a call would hand the number and the answer over
-// in memory, and take twice the time of a sum.
+// The same where the format is known to be one. Inlined, as `settle` is: a call would hand the number and the answer
+// over in memory, and take twice the time of a sum.
 #[inline(always)]
 pub fn fit<R: Raw>(x: Exact, format: Format, manner: Manner) -> Answered<R>
     ensures { result ≡ answered R.kind (settle manner R.kind.sign format.width (exact x.neg x.high x.low)) }

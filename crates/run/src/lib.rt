@@ -23,8 +23,8 @@ fn in_run(b: u8, radix: u32, skip: bool) -> bool
     byte::is_digit(b, radix) || skip && b == b'_'
 }
 
-// The end of a run whose first digit stands before `from`. A loop, since every reading passes here: by `position`, or
-// by `take_while(..).count()`, texts of 60 digits take a tenth more time.
+// The end of a run whose first digit stands before `from`, a place beside its text here and below, as in the scanner:
+// `Reader` there says why. By `position`, tried, texts of 60 digits take a tenth more time.
 fn rest_end(text: &[u8], from: usize, radix: u32, skip: bool) -> usize
     requires { from ≤ length text.now }
     ensures { result ≡ from + run_more skip radix (drop from text.now) }
