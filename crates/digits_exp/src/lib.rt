@@ -17,7 +17,8 @@ use splitting::Whole;
 use view::View;
 
 // A view: the text from `from` up to `to`, and how many digits it has. Plain, since `view_of` answers for any span:
-// `View` has the text and the invariant.
+// `View` has the text and the invariant. Apart from `run::Run`, the scanner's: a crate under both would hold nothing
+// else.
 #[derive(Clone, Copy, Default)]
 pub struct Span {
     pub from: usize,

@@ -86,6 +86,7 @@ impl Raw for i64 {
     }
 
     fn of_residue(bits: u64, format: Format) -> i64 {
+        // the two cases of the definition; sign extension by two shifts has fewer words and is no plainer
         if bits < format.half() {
             with_sign(false, bits)
         } else {
