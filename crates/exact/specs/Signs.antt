@@ -1,7 +1,7 @@
 -- The operations on signs and magnitudes, and that each is the operation on the numbers they stand for. Each law goes by the
 -- signs. Assumes nothing.
 use Rattle.std.specs.Prelude.{◌≡◌, refl, Bool, true, false, not, ℕ, zero, suc, ◌+◌, ◌*◌, ◌-◌, ◌/◌, ◌%◌, ◌^◌, ◌≤◌, ◌<◌, ltb, ℤ, pos, negsuc, neg_ℤ, nat_abs, ◌+ℤ◌, ◌*ℤ◌}
-use Rattle.std.proofs.Common.{sym, ap, ap₂, ◌∙◌, true≢false, arith, add-one, lt_of_lt_of_le, lt_of_le_of_lt, div-le_self, pow_mono, shl_exact, le-ltb, ltb-true, ltb-false}
+use Rattle.std.proofs.Common.{sym, ap, ap₂, ◌∙◌, true≢false, arith, add-one, lt_of_le_of_lt, div-le_self, shl_exact, le-ltb, ltb-true, ltb-false}
 use Rattle.std.specs.Bool.{beq}
 use Rattle.std.proofs.lemmas.Bool.{false≢true}
 use Rattle.std.proofs.Math.Nat.{zero-div, zero-mod}
@@ -55,9 +55,6 @@ sum-turned n m a b h l e = sum-apart m n b a (turned n m h) l e ∙ +ℤ_comm (w
     turned true false h = refl
     turned false true h = refl
     turned false false h = h
-
-pub two-words : {a b : ℕ} → a < 2 ^ 64 → b < 2 ^ 64 → (0 * 2 ^ 64 + a) + (0 * 2 ^ 64 + b) < 2 ^ 128
-two-words h k = lt_of_lt_of_le {m = 2 ^ 65} (omega arith) (pow_mono {i = 65} {j = 128} (omega arith))
 
 pub words-lt : {h l : ℕ} → h < 2 ^ 64 → l < 2 ^ 64 → h * 2 ^ 64 + l < 2 ^ 128
 words-lt p q = digits_lt {m = 2 ^ 64} p q

@@ -49,17 +49,22 @@ impl From<Number> for Exact {
     }
 }
 
-// x + y: equal signs add the words, with a carry; else the smaller word is taken from the larger, whose sign stays.
+// A number of 65 bits, with its sign.
+impl From<Number> for i128 {
+    ghost from_gives = { λ x n. n ≡ number_of x };
+
+    #[tactic(auto, unfolding(format::specs::Meaning::with_sign))]
+    fn from(x: Number) -> i128 {
+        let size = i128::from(x.size);
+        if x.neg { -size } else { size }
+    }
+}
+
+// x + y
 pub fn sum(x: Number, y: Number) -> Exact
     ensures { exact_of result ≡ number_of x +ℤ number_of y }
 {
-    if x.neg == y.neg {
-        Exact::new(x.neg, wide::add(x.size.into(), y.size.into()))
-    } else if x.size < y.size {
-        Exact::new(y.neg, (y.size - x.size).into())
-    } else {
-        Exact::new(x.neg, (x.size - y.size).into())
-    }
+    (i128::from(x) + i128::from(y)).into()
 }
 
 // x * y / 2^frac, rounded toward minus infinity.

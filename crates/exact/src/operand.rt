@@ -1,17 +1,28 @@
-// Sums, differences and products of raws. Those of signed ones are numbers of 128 bits with a sign, so that there is no
-// branch on the signs; those of unsigned ones go by sign and magnitude, since their products fill 128 bits.
-ghost use Rattle.std.specs.Prelude.{◌≡◌, ◌^◌, neg_ℤ, ◌+ℤ◌, ◌*ℤ◌};
+// Sums, differences and products of raws: of a number of 128 bits with a sign, which holds all of them but the product
+// of two unsigned ones. So there is no branch on a sign.
+ghost use Rattle.std.specs.Prelude.{◌≡◌, ◌^◌, ◌<◌, nat_abs, neg_ℤ, ◌+ℤ◌, ◌*ℤ◌};
 ghost use Rattle.laws.specs.Floor.{floor as floor_of};
 ghost use Rattle.exact.specs.Meaning.{exact_of};
 
 use format::{Exact, Raw};
 
 pub trait Operand: Raw {
+    // Its number.
+    fn number(self) -> i128
+        ensures number { result ≡ Self.kind.number_of self }
+        ensures bound { nat_abs result < 2 ^ 64 };
+
     fn sum(self, other: Self) -> Exact
-        ensures { exact_of result ≡ Self.kind.number_of self +ℤ Self.kind.number_of other };
+        ensures { exact_of result ≡ Self.kind.number_of self +ℤ Self.kind.number_of other }
+    {
+        (self.number() + other.number()).into()
+    }
 
     fn difference(self, other: Self) -> Exact
-        ensures { exact_of result ≡ Self.kind.number_of self +ℤ neg_ℤ (Self.kind.number_of other) };
+        ensures { exact_of result ≡ Self.kind.number_of self +ℤ neg_ℤ (Self.kind.number_of other) }
+    {
+        (self.number() - other.number()).into()
+    }
 
     // The product over 2^frac, rounded toward minus infinity.
     fn product(self, other: Self, frac: u32) -> Exact
@@ -19,12 +30,8 @@ pub trait Operand: Raw {
 }
 
 impl Operand for i64 {
-    fn sum(self, other: i64) -> Exact {
-        (i128::from(self) + i128::from(other)).into()
-    }
-
-    fn difference(self, other: i64) -> Exact {
-        (i128::from(self) - i128::from(other)).into()
+    fn number(self) -> i128 {
+        i128::from(self)
     }
 
     fn product(self, other: i64, frac: u32) -> Exact {
@@ -35,12 +42,8 @@ impl Operand for i64 {
 }
 
 impl Operand for u64 {
-    fn sum(self, other: u64) -> Exact {
-        crate::sum(crate::of(self), crate::of(other))
-    }
-
-    fn difference(self, other: u64) -> Exact {
-        crate::sum(crate::of(self), crate::negated(crate::of(other)))
+    fn number(self) -> i128 {
+        self.into()
     }
 
     fn product(self, other: u64, frac: u32) -> Exact {

@@ -66,7 +66,7 @@ pub fn mul_add(x: Number, y: Number, z: Number, frac: u32) -> Exact
 }
 
 // x + y: equal signs add, else the smaller is taken from the larger, whose sign stays.
-// Apart from `exact::sum`, of one word each, which asks for no room: each sum of two raws would owe this clause.
+// By sign and magnitude, and not as `exact::sum`: the floor of a product of two words can be past an `i128`.
 fn add(x: Exact, y: Number) -> Exact
     requires { x.high * 2 ^ 64 + x.low + 2 ^ 64 ≤ 2 ^ 128 }
     ensures { exact_of result ≡ exact_of x +ℤ number_of y }

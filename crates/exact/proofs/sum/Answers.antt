@@ -1,23 +1,26 @@
--- `exact::sum` meets its contract, by equal and unequal signs (`Signs`). Assumes nothing.
-use native.Mathlib.Omega.{arith}
-use mathlib.Core.Path.{◌∙◌}
-use Rattle.exact.specs.Signs.{sum_same, sum-apart, sum-turned}
+-- `exact::sum` meets its contract: 128 bits hold the sum of two numbers of 65. Assumes nothing.
+use Rattle.std.proofs.Common.{ap₂, ◌∙◌, arith, ℤ, ◌+ℤ◌, ◌<◌, ◌^◌, to_z, of_z, to_z-of_z, SFits}
+use mir.Syntax.{w128}
+use Rattle.laws.specs.Bound.{abs-add, abs-sfits}
+use Rattle.laws.specs.Signed.{ok-back}
+use Rattle.exact.specs.declared.Number.{Number}
+use Rattle.exact.specs.Meaning.{number_of}
+use Rattle.exact.specs.Signs.{abs-sign}
 use Rattle.exact.proofs.sum.Goals as goal
 
-pub returns-then-x-y : goal.returns-then-x-y
-returns-then-x-y c =
-    let a = c.args in
-    c.new.ensures
-    ∙ sum_same a.x.neg a.y.neg a.x.size a.y.size c.if-x-y.true (omega (arith, c.add.ensures, c.into.ensures, c.into-then-x-y.ensures))
+fits : (x y : Number) → x.size < 2 ^ 64 → y.size < 2 ^ 64 → SFits w128 (number_of x +ℤ number_of y)
+fits x y h k =
+    abs-sfits w128 (number_of x +ℤ number_of y)
+    (omega (arith, h, k, abs-add (number_of x) (number_of y), abs-sign x.neg x.size, abs-sign y.neg y.size))
 
-pub returns-then-x-y-2 : goal.returns-then-x-y-2
-returns-then-x-y-2 c =
-    let a = c.args in
-    c.new-then-x-y-2.ensures
-    ∙ sum-turned a.x.neg a.y.neg a.x.size a.y.size c.if-x-y.false (omega arith) (omega (arith, c.into-then-x-y-2.ensures))
+pub overflow_add-from : goal.overflow_add-from
+overflow_add-from c =
+    rw (ok-back w128 c.from.result c.from.type_inv, c.from.ensures, ok-back w128 c.from-2.result c.from-2.type_inv, c.from-2.ensures)
+    (fits c.args.x c.args.y (omega arith) (omega arith))
 
-pub returns-else-x-y-2 : goal.returns-else-x-y-2
-returns-else-x-y-2 c =
-    let a = c.args in
-    c.new-else-x-y-2.ensures
-    ∙ sum-apart a.x.neg a.y.neg a.x.size a.y.size c.if-x-y.false (omega arith) (omega (arith, c.into-else-x-y-2.ensures))
+pub returns : goal.returns
+returns c =
+    let x = ok-back w128 c.from.result c.from.type_inv ∙ c.from.ensures in
+    let y = ok-back w128 c.from-2.result c.from-2.type_inv ∙ c.from-2.ensures in
+    c.into.ensures ∙ ap₂ (λ (a b : ℤ). to_z w128 (of_z w128 (a +ℤ b))) x y
+    ∙ to_z-of_z {w = w128} (fits c.args.x c.args.y (omega arith) (omega arith))
