@@ -26,7 +26,8 @@ pub fn from_f64<R: Raw>(pattern: u64, width: u32, frac: u32, manner: Manner) -> 
     from(Binary::F64, pattern, width, frac, manner)
 }
 
-// Rounded first, and fitted then.
+// Rounded first, and fitted then. Inlined: a call would hand the answer over in memory, and take a third more time.
+#[inline(always)]
 fn from<R: Raw>(binary: Binary, pattern: u64, width: u32, frac: u32, manner: Manner) -> Answered<R>
     ensures { result ≡ answered R.kind (from_float_of (binary_of binary) manner R.kind.sign width frac pattern) }
 {
