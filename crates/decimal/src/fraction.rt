@@ -24,8 +24,8 @@ fn scaled(magnitude: u64, format: Format) -> u64
 }
 
 // The digits of fraction / 2^64, two at a time: the word above a hundred times what is left, until nothing is left.
-// Where the number of digits is odd, the last pair has a zero to spare. `frac` is there for the clauses, which say by it
-// how many digits there are.
+// Where the number of digits is odd, the last pair has a zero to spare. `frac` is there for the clauses, which say by
+// it how many digits there are.
 fn digits(text: &mut Layout, fraction: u64, frac: u32)
     requires bits { frac ≤ 64 }
     requires room { text.old.end ≤ POINT }
