@@ -12,7 +12,8 @@ pub fn again<R: Raw>(raw: R, width: u32, frac: u32, manner: Manner, out: &mut [u
     read_back(out, written.raw, width, frac, manner)
 }
 
-// The first n bytes, read; all of them where there are fewer.
+// The first n bytes, read; all of them where there are fewer. The count stands beside the buffer, as the writer answers
+// it: `ReadBack` speaks of both.
 fn read_back<R: Raw>(out: &[u8], n: u64, width: u32, frac: u32, manner: Manner) -> Answered<R>
     ensures { ReadBack R.kind out.now n width frac manner result }
 {

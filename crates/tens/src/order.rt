@@ -46,11 +46,8 @@ fn walk(digits: Digits<'_>, start: Wide) -> Ordering
         }
         rest = wide::mul(rest.low, 10);
     }
-    if rest.high == 0 && rest.low == 0 {
-        Ordering::Equal
-    } else {
-        Ordering::Less
-    }
+    // no digit is left: 0 against what is left of the middle
+    0.cmp(&u128::from(rest))
 }
 
 impl<'a> Fraction<'a> {

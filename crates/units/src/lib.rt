@@ -86,7 +86,8 @@ pub fn modulo(x: Number, m: u64) -> u64
     if x.neg && rest != 0 { m - rest } else { rest }
 }
 
-// How many whole 2^frac are at or below x.
+// How many whole 2^frac are at or below x. Of a word, so that it is a `Number` again: `exact::floor` is the same of two
+// words.
 fn below(x: Number, frac: u32) -> Number
     ensures { number_of result ≡ floor_of (number_of x) (2 ^ frac) }
 {
@@ -119,7 +120,8 @@ fn nearest_away(size: u64, format: Format) -> u64
     }
 }
 
-// Apart from `nearest_away` by the tie alone: as a closure, it would take a bound on q and a clause of its own.
+// Apart from `nearest_away` by the tie alone: as a closure, it would take a bound on q and a clause of its own. Apart
+// from `float::rounding::nearest` too, which no format stands below: its count of places is from 1 to 63.
 fn nearest_even(size: u64, format: Format) -> u64
     ensures { result ≡ nearest_even size (2 ^ format.frac) }
 {
