@@ -6,7 +6,7 @@ use Rattle.std.proofs.Math.Bool.{false}
 use borrow.Author.Tests.{le-leb, eq-eqb}
 use Rattle.format.specs.declared.Manner.{Manner}
 use Rattle.format.specs.declared.refusal.Refusal.{Refusal}
-use Rattle.format.specs.Meaning.{Sign, Kind, unsigned_kind, Answered, fault_of, done, answered, guarded}
+use Rattle.format.specs.Meaning.{Sign, Kind, Answered, fault_of, answered, guarded}
 use Rattle.format.specs.Theorems.{InRange}
 use Rattle.grammar.specs.Meaning.{read_of}
 use Rattle.decimal.specs.Meaning.{raw_text, put, write_of}
