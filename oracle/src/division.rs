@@ -1,8 +1,8 @@
 //! Decimal fractions that bring the port's division of the first 27 digits to its corners.
 //!
-//! The port divides the number of these digits, times 2^(F-26), by D = 2 x 5^27, with half words as digits: each digit of the
-//! quotient is guessed by the upper half of D, and mended. A fault in this may show only for one number in 2^32, so the corners
-//! are made from their equations. The model, which judges, divides otherwise.
+//! The port divides the number of these digits, times 2^(F-26), by D = 2 x 5^27, a number of 128 bits by one of 64. Divisions of that
+//! kind take half words as digits: each digit of the quotient is guessed by the upper half of D, and mended, and a fault in this may show
+//! only for one number in 2^32. So the corners are made from these equations. The model, which judges, divides otherwise.
 
 use crate::near::neighbours;
 use crate::picks::raws;
