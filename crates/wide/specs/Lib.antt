@@ -1,3 +1,4 @@
 pub mod Meaning
 pub mod Promise
+pub mod Step
 pub mod Theorems

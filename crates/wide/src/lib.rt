@@ -8,6 +8,8 @@ ghost use Rattle.std.specs.Prelude.{◌≡◌, ◌+◌, ◌*◌, ◌^◌, ◌<�
 ghost use Rattle.wide.specs.Meaning.{value_of};
 ghost use Rattle.wide.specs.Promise.{Product, Sum, Difference, Less, Divided, ShiftedLeft, ShiftedRight, Scaled};
 
+mod divide;
+
 // A number of up to 128 bits.
 #[derive(Clone, Copy)]
 pub struct Wide {
@@ -85,7 +87,8 @@ pub fn less(x: Wide, y: Wide) -> bool
     u128::from(x) < u128::from(y)
 }
 
-// x / d and x % d. One machine division where x is one word: that of 128 bits is a call, and takes twice the time.
+// x / d and x % d. One machine division where x is one word; else the upper word first, and what that leaves goes before
+// the lower word into the second step. No division of a `u128`: that is a call into the C compiler's library.
 pub fn div(x: Wide, d: u64) -> Quotient
     requires { 0 < d }
     ensures { Divided x d result }
@@ -96,11 +99,14 @@ pub fn div(x: Wide, d: u64) -> Quotient
             rest: x.low % d,
         };
     }
-    let n = u128::from(x);
-    let by = u128::from(d);
+    let top = divide::word(x.high, d);
+    let step = divide::words(top.rest, x.low, d);
     Quotient {
-        quotient: (n / by).into(),
-        rest: (n % by) as u64,
+        quotient: Wide {
+            high: top.quotient,
+            low: step.quotient,
+        },
+        rest: step.rest,
     }
 }
 
