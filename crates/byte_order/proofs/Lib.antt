@@ -1,2 +1,3 @@
 pub mod Buffers
+pub mod Gathered
 pub mod Words

@@ -26,14 +26,17 @@ pub(crate) fn turned(x: u64, format: Format) -> u64
     x.swap_bytes() >> (64 - format.width)
 }
 
-// The number of these bytes, the first one lowest; `turned` makes of it that of the other order.
+// The number of these bytes, the first one lowest; `turned` makes of it that of the other order. Byte by byte from the
+// last: a copy of so few into a word is a call.
 pub(crate) fn read(bytes: &[u8]) -> u64
     requires { length bytes.now ≤ 8 }
     ensures { result ≡ from_le bytes.now }
 {
-    let mut word = [0u8; 8];
-    word[..bytes.len()].copy_from_slice(bytes);
-    u64::from_le_bytes(word)
+    let mut word: u64 = 0;
+    for byte in bytes.iter().rev() {
+        word = word * 256 + u64::from(*byte);
+    }
+    word
 }
 
 // The bytes to the front of the buffer. The answer is how many.
