@@ -104,7 +104,7 @@ pub fn scaled(size: u64, k: u32) -> Wide
     requires { k ≤ 64 }
     ensures { value_of result ≡ size * 2 ^ k }
 {
-    wide::shl(size.into(), k)
+    (u128::from(size) << k).into()
 }
 
 // x * 2^k.

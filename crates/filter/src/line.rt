@@ -40,13 +40,16 @@ impl Model for Window {
 }
 
 impl Window {
-    // The line at the window's end.
-    pub(crate) fn new(line: [i16; TAPS]) -> Window
-        ensures { result ≡ line }
+    // The line at the window's end. Laid in the window itself: places that are moved into it are copied.
+    pub(crate) fn new(line: &[i16; TAPS]) -> Window
+        ensures { result ≡ line.now }
     {
-        let mut places = [0i16; ROOM];
-        places[TAPS..].copy_from_slice(&line);
-        Window { places, at: TAPS }
+        let mut window = Window {
+            places: [0i16; ROOM],
+            at: TAPS,
+        };
+        window.places[TAPS..].copy_from_slice(line);
+        window
     }
 
     // The new sample in front. Where the line has come to the window's front, it is laid at the end again.
