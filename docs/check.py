@@ -1,10 +1,10 @@
 #!/usr/bin/env python3
 """Holds docs/PROMISES.md and docs/promises/*.md against the sources; the last line is 'N passed, M failed'.
 
-Every public function of a crate stands in the crate's row and in a table of its page, with the promise that its contract cites; one with a `requires`
-stands among the exceptions; every function of a row exists. No `pub fn` stands in a module without `pub`, and every `pub(crate) fn` with a `requires` stands
-in the table of inner functions, with the files that call it. Files, promises, meanings, theorems, `unique` and must-fail edits that are cited exist, and
-every edit is on a page. The header declares what is exported. In names S stands for either sign.
+Every public function of a crate, a method of a public trait too, stands in the crate's row and in a table of its page, with the promise that its contract
+cites; one with a `requires` stands among the exceptions; every function of a row exists. No `pub fn` or `pub trait` stands in a module without `pub`, and
+every `pub(crate) fn` with a `requires` stands in the table of inner functions, with the files that call it. Files, promises, meanings, theorems, `unique`
+and must-fail edits that are cited exist, and every edit is on a page. The header declares what is exported. In names S stands for either sign.
 
 Of each public function's answer the column "One outcome" says what settles it: a law that is declared, or "an equation", which its contract then is; where
 it says "open", the function stands among the exceptions. What a promise unfolds to stands in a Meaning file, or on the list of `laws` in docs/PROMISES.md;
@@ -23,6 +23,8 @@ CLAUSE = re.compile(r"\b(?:requires|ensures)\b[^{]*\{")
 INNER = re.compile(r"^pub\(crate\) fn (\w+)(.*?)(?:^| )\{$", re.M | re.S)
 IMPL = re.compile(r"^impl(?:<[^>]*>)? (\w+).*?^\}$", re.M | re.S)
 METHOD = re.compile(r"^    pub fn (\w+)(.*?)(?:^    | )\{$", re.M | re.S)
+TRAIT = re.compile(r"^pub trait (\w+).*?^\}$", re.M | re.S)
+TRAIT_METHOD = re.compile(r"^    fn (\w+)(.*?)(?:;|(?:^    | )\{)$", re.M | re.S)
 INNER_METHOD = re.compile(r"^    pub\(crate\) fn (\w+)(.*?)(?:^    | )\{$", re.M | re.S)
 PATH = re.compile(r"(?<![\w/.])(?:(?:crates|oracle|docs|include|tests|bindings|specs|proofs|must-fail)/[\w./-]*\w|\w+\.antt)")
 DECLARED = re.compile(r"^\s*(?:(?:pub|unfoldable|abbrev|opaque|record|data) +)*([^\s:]+)", re.M)
@@ -71,14 +73,14 @@ def public(crate):
     return [(module, *found) for module, text in files for found in FUNCTION.findall(text) + entries(text)]
 
 
-def methods(text, kind=METHOD):
-    """(type, name, contract) of each method of a file's types."""
-    return [(block[1], name, contract) for block in IMPL.finditer(text) for name, contract in kind.findall(block[0])]
+def methods(text, kind=METHOD, blocks=IMPL):
+    """(type or trait, name, contract) of each method of a file's types, or of its traits."""
+    return [(block[1], name, contract) for block in blocks.finditer(text) for name, contract in kind.findall(block[0])]
 
 
 def entries(text):
-    """(name, contract) of each public method, whose name begins with its type's."""
-    return [(f"{of}::{name}", contract) for of, name, contract in methods(text)]
+    """(name, contract) of each public method, whose name begins with its type's or its trait's; those of a public trait are public."""
+    return [(f"{of}::{name}", contract) for of, name, contract in methods(text) + methods(text, TRAIT_METHOD, TRAIT)]
 
 
 def named(module, name, where, text):
@@ -97,7 +99,7 @@ def functions(crate, row):
         full = "::".join(filter(None, (crate.name, module, name)))
         see(named(module, name, row, row), f"docs/PROMISES.md: {full} is not in its row")
         ensures = " ".join(clauses(contract, "ensures"))
-        promise = [one for one in re.findall(r"\b[A-Z]\w+", ensures) if one not in ("Signed", "Unsigned", "File")][:1]
+        promise = [one for one in re.findall(r"\b[A-Z]\w+", ensures) if one not in ("Signed", "Unsigned", "File", "Self")][:1]
         if "no promise" not in row and "mathematics only" not in row:
             see(named(module, name, table, pages), f"docs/promises: {full} is in no table of its page")
             see(not promise or promise[0] in words(pages), f"docs/promises: {full} promises {promise}, which is not on its page")
@@ -107,8 +109,9 @@ def functions(crate, row):
     for word in words(row.split("|")[2]) if row else []:
         see(word in known, f"docs/PROMISES.md: {word} is no public function of {crate.name}")
     for module in re.findall(r"^mod (\w+);", (crate / "src/lib.rt").read_text(), re.M):
-        public_ones = [name for name, _ in FUNCTION.findall((crate / f"src/{module}.rt").read_text())]
-        see(not public_ones, f"crates/{crate.name}/src/{module}.rt: `pub fn` in a module without `pub`: {public_ones}")
+        text = (crate / f"src/{module}.rt").read_text()
+        public_ones = [name for name, _ in FUNCTION.findall(text) + entries(text)]
+        see(not public_ones, f"crates/{crate.name}/src/{module}.rt: `pub fn` or `pub trait` in a module without `pub`: {public_ones}")
 
 
 def inner():

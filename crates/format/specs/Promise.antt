@@ -1,10 +1,10 @@
 -- The promises of the public functions, each an equation, and that each settles its answer. Assumes nothing.
-use Rattle.std.specs.Prelude.{◌≡◌, Result, Bool, ℕ, ℤ, nat_abs}
+use Rattle.std.specs.Prelude.{◌≡◌, refl, Result, Bool, true, false, ℕ, ℤ, nat_abs}
 use Rattle.laws.specs.Unique.{unique}
 use Rattle.format.specs.declared.Manner.{Manner}
 use Rattle.format.specs.declared.refusal.Refusal.{Refusal}
-use Rattle.format.specs.Meaning.{Kind, Answered, fault_of, unless, settle, exact, answered, checked}
-use Rattle.format.specs.Meaning.{is_width}
+use Rattle.format.specs.Meaning.{Kind, Sign, Answered, fault_of, unless, settle, exact, answered, checked}
+use Rattle.format.specs.Meaning.{is_width, sign_by}
 
 abbrev pub IsWidth : ℕ → Bool → Type 0
 IsWidth w r = r ≡ is_width w
@@ -27,6 +27,14 @@ check-unique w f r s p q = unique p q
 
 pub magnitude-unique : (x : ℤ) (r s : ℕ) → Magnitude x r → Magnitude x s → r ≡ s
 magnitude-unique x r s p q = unique p q
+
+-- whether a raw's formats are signed is settled by their sign
+pub signed-unique : (s : Sign) (p q : Bool) → sign_by p ≡ s → sign_by q ≡ s → p ≡ q
+unfolding sign_by
+signed-unique s true true e f = refl
+signed-unique s true false e f = cc
+signed-unique s false true e f = cc
+signed-unique s false false e f = refl
 
 module _ {A : Type 0} (c : Kind A) (neg : Bool) (high low w f : ℕ) (k : Manner) where
   pub settle-unique : (r s : Answered A) → Settle c neg high low w f k r
