@@ -77,7 +77,8 @@ pub fn run(
         (state_of state.new) outputs.new clips.new }
 {
     let taps = fault::block(taps, samples.len(), outputs.len(), clips.len())?;
-    let mut line = Window::new(state);
+    let mut line = Window::silent();
+    line.lay(state);
     let count = block::through(&taps, &mut line, samples, outputs, clips);
     state.copy_from_slice(line.line());
     Ok(count.into())

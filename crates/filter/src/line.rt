@@ -1,5 +1,5 @@
 // The line of the last samples, newest first; and the window that it slides down in.
-ghost use Rattle.std.specs.Prelude.{◌≡◌, length};
+ghost use Rattle.std.specs.Prelude.{◌≡◌, length, pos, replicate};
 ghost use Rattle.filter.specs.Meaning.{most_taps, next};
 
 use super::TAPS;
@@ -40,16 +40,22 @@ impl Model for Window {
 }
 
 impl Window {
-    // The line at the window's end. Laid in the window itself: places that are moved into it are copied.
-    pub(crate) fn new(line: &[i16; TAPS]) -> Window
-        ensures { result ≡ line.now }
+    // A silent line, into which that of a call is laid: a window that is handed over with its line is copied once more.
+    pub(crate) fn silent() -> Window
+        ensures { result ≡ replicate most_taps (pos 0) }
     {
-        let mut window = Window {
+        Window {
             places: [0i16; ROOM],
             at: TAPS,
-        };
-        window.places[TAPS..].copy_from_slice(line);
-        window
+        }
+    }
+
+    // The line at the window's end.
+    pub(crate) fn lay(&mut self, line: &[i16; TAPS])
+        ensures { self.new ≡ line.now }
+    {
+        self.places[TAPS..].copy_from_slice(line);
+        self.at = TAPS;
     }
 
     // The new sample in front. Where the line has come to the window's front, it is laid at the end again.

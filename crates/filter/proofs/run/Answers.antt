@@ -35,4 +35,4 @@ returns c =
     let kept = (none-checked _ c.in_ok-taps.ensures).1 in
     let final = c.copy_from_slice.ensures.after ∙ c.line.ensures.line in
     let left = λ (e : Refusal). ran (Err e) (state_of a.state.now) a.outputs.now a.clips.now in
-    rw (c.into.ensures, final) (same-run (rw (kept, c.new-line.ensures) at c.through-count.ensures) ∙ goes_on _ _ left _ c.in_ok-taps.ensures)
+    rw (c.into.ensures, final) (same-run (rw (kept, c.lay.ensures) at c.through-count.ensures) ∙ goes_on _ _ left _ c.in_ok-taps.ensures)
