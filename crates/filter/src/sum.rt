@@ -27,8 +27,8 @@ fn dot(taps: &[i16], line: &[i16]) -> i64
     ensures bound { nat_abs result ≤ most_taps * 2 ^ 30 }
 {
     let mut sum: i64 = 0;
-    for (tap, sample) in taps.iter().zip(line) {
-        sum += product(*tap, *sample);
+    for (i, tap) in taps.iter().enumerate() {
+        sum += product(*tap, line[i]);
     }
     sum
 }
