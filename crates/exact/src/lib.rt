@@ -98,7 +98,7 @@ fn floor_below(size: Wide, k: u32) -> Exact
     }
 }
 
-// A word times 2^k. A whole word is left over for the shift, so nothing is lost. That k is at most a word stands in a
+// A word times 2^k. A whole word is left over for the shift, so nothing is lost. That k is at most 64 stands in a
 // clause here and below, in no type: it is F of a format for a quotient, and a count modulo W for a shift.
 pub fn scaled(size: u64, k: u32) -> Wide
     requires { k ≤ 64 }

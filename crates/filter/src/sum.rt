@@ -19,7 +19,8 @@ fn product(tap: i16, sample: i16) -> i64
     i64::from(i32::from(tap) * i32::from(sample))
 }
 
-// The exact sum of the products.
+// The exact sum of the products. By the tap's place: over a `zip` the compiler takes two products a turn in place of
+// four, and a turn so short takes up to twice its time where the code stands badly.
 fn dot(taps: &[i16], line: &[i16]) -> i64
     requires few_taps { length taps.now ≤ most_taps }
     requires enough_samples { length taps.now ≤ length line.now }

@@ -87,8 +87,8 @@ pub fn less(x: Wide, y: Wide) -> bool
     u128::from(x) < u128::from(y)
 }
 
-// x / d and x % d. One machine division where x is one word; else the upper word first, and what that leaves goes before
-// the lower word into the second step. No division of a `u128`: that is a call into the C compiler's library.
+// x / d and x % d. One machine division where x is one word; else the upper word first, and what that leaves goes
+// before the lower word into the second step. No division of a `u128`: that is a call into the C compiler's library.
 pub fn div(x: Wide, d: u64) -> Quotient
     requires { 0 < d }
     ensures { Divided x d result }

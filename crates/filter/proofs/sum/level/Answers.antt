@@ -1,5 +1,5 @@
 -- `sum::level` meets its contract: the two callees' equations, one in the other. The sum is read back from its bits, and is the same number,
--- since a call's result fits (`.ok`). Assumes nothing.
+-- since a call's result fits (`type_inv`). Assumes nothing.
 use mathlib.Core.Path.{◌∙◌}
 use mir.Syntax.{w64}
 use Rattle.laws.specs.Signed.{ok-back}
