@@ -1,18 +1,17 @@
--- std's words for the eight bytes of a word are the meaning's: of the bytes of a number, of the number of bytes before
--- zeros, whose bytes they are, and of a word with its bytes swapped. Assumes nothing.
-use Rattle.std.specs.Prelude.{◌≡◌, ℕ, zero, suc, ◌+◌, ◌-◌, ◌*◌, ◌/◌, ◌%◌, ◌^◌, ◌≤◌, ◌<◌, get_or, List, [], ◌∷◌, ◌++◌, reverse, replicate, length, take, drop}
-use Rattle.std.specs.Int.{w64, byte_at, bytes_low_first, bytes_high_first, to_le_bytes, to_be_bytes, from_le_bytes, from_be_bytes, swap_bytes}
+-- std's words for the eight bytes of a word are the meaning's: of the bytes of a number, and of a word with its bytes swapped; and the bytes of the number
+-- that bytes are. Assumes nothing.
+use Rattle.std.specs.Prelude.{◌≡◌, ℕ, zero, suc, ◌+◌, ◌-◌, ◌*◌, ◌/◌, ◌%◌, ◌^◌, ◌≤◌, ◌<◌, get_or, List, [], ◌∷◌, reverse, length, take, drop}
+use Rattle.std.specs.Int.{w64, byte_at, bytes_low_first, bytes_high_first, to_le_bytes, to_be_bytes, from_be_bytes, swap_bytes}
 use Rattle.std.proofs.Math.Path.{refl, sym, ap, ap₂}
 use Rattle.std.proofs.Math.Arith.{digits_div, digits_mod}
-use Rattle.std.proofs.Common.{◌∙◌, arith, inl, inr, length-append}
+use Rattle.std.proofs.Common.{◌∙◌, arith, inl, inr}
 use Rattle.std.proofs.Math.Nat.{div-one, div-div-eq-div-mul, pow-suc}
 use Rattle.std.proofs.lemmas.Nat.{pow-add}
-use Rattle.std.proofs.lemmas.List.{reverse-append, drop-replicate, length-replicate, length-reverse, take_all}
+use Rattle.std.proofs.lemmas.List.{reverse-append, length-reverse, take_all}
 use Rattle.std.proofs.lemmas.Bool.{cases_lt}
 use Rattle.byte_order.specs.Meaning.{le_bytes, from_le, from_be}
-use Rattle.byte_order.specs.Bytes.{le-last, le-front, swapped-front, le-zeros}
+use Rattle.byte_order.specs.Bytes.{le-last, le-front, swapped-front}
 use Rattle.byte_order.specs.Theorems.{bytes-length}
-use borrow.Rule.Slice.PartMut.{put_mid}
 
 byte-is : (i x : ℕ) → byte_at i x ≡ x / 256 ^ i % 256
 byte-is zero x = ap (λ (q : ℕ). q % 256) (sym (div-one x))
@@ -76,23 +75,11 @@ eight P p (a ∷ b ∷ c ∷ d ∷ x ∷ f ∷ g ∷ []) e = absurd (omega arith
 eight P p (a ∷ b ∷ c ∷ d ∷ x ∷ f ∷ g ∷ h ∷ []) e = p a b c d x f g h
 eight P p (a ∷ b ∷ c ∷ d ∷ x ∷ f ∷ g ∷ h ∷ y ∷ t) e = absurd (omega arith)
 
-word-le : (l : List ℕ) → length l ≡ 8 → from_le_bytes w64 l ≡ from_le l
-unfolding from_le
-word-le = eight (λ (l : List ℕ). from_le_bytes w64 l ≡ from_le l) (λ a b c d e f g h. omega arith)
-
 word-be : (l : List ℕ) → length l ≡ 8 → from_be_bytes w64 l ≡ from_be 0 l
 unfolding from_be
 word-be = eight (λ (l : List ℕ). from_be_bytes w64 l ≡ from_be 0 l) (λ a b c d e f g h. omega arith)
 
--- at most eight, before zeros
-module _ (l : List ℕ) (n : ℕ) (h : n ≤ 8) (e : length l ≡ n) where
-  pub read-low : from_le_bytes w64 (put_mid 0 n (replicate 8 0) l) ≡ from_le l
-  read-low =
-      let shape : put_mid 0 n (replicate 8 0) l ≡ l ++ replicate (8 - n) 0 = rw (drop-replicate {X = ℕ} n 8 0) refl in
-      let size : length (l ++ replicate (8 - n) 0) ≡ 8 = omega (arith, length-append l (replicate (8 - n) 0), length-replicate {A = ℕ} (8 - n) 0) in
-      ap (from_le_bytes w64) shape ∙ word-le (l ++ replicate (8 - n) 0) size ∙ le-zeros l (8 - n)
-
--- and their number has these bytes
+-- the number of bytes has these bytes
 pub bytes-again : (l : List ℕ) → ((i : ℕ) → get_or l i 0 < 256) → le_bytes (length l) (from_le l) ≡ l
 unfolding le_bytes from_le
 bytes-again [] h = refl

@@ -1,5 +1,5 @@
 -- `fitting::judge::keep` meets its contract: each turn keeps one raw more. Assumes nothing.
-use Rattle.std.proofs.Common.{get_or, pos, take, length, w16, arith}
+use Rattle.std.proofs.Common.{get_or, pos, take, w16, arith}
 use Rattle.std.proofs.lemmas.List.{length-take-le}
 use Rattle.laws.specs.Signed.{ok-back}
 use Rattle.value_lines.specs.Held.{held_none, held_more, held_all}
