@@ -1,7 +1,7 @@
 // The fitting file (01, module 9) with its list as one lent slice of records.
 #![tactic(auto)]
 
-ghost use Rattle.fitting_list.specs.Promise.{ReadsList};
+ghost use Rattle.fitting_list.specs.Promise.{ReadsList, ReadsParts};
 
 use filter::TAPS;
 use fitting::{FileAnswer, check, judge};
@@ -16,10 +16,11 @@ pub struct Entry {
 }
 
 // The list and the taps as `fitting::read` writes them, with the list as one lent slice of records. The value lines are
-// found in three arrays: `value_lines::store` and `judge` take three slices, which C lends to `fitting::read`.
+// found in three arrays: `value_lines::store` and `judge` take three slices, which C lends to `fitting::read`. The second
+// clause is the promise of `fitting::read`, of the list's parts: what is proved of that call holds of this one.
 pub fn read_list(file: &[u8], list: &mut [Entry], taps: &mut [i16]) -> FileAnswer
-    ensures { ReadsList file.now list.old taps.old result list.new
-        taps.new }
+    ensures records { ReadsList file.now list.old taps.old result list.new taps.new }
+    ensures parts { ReadsParts file.now list.old taps.old result list.new taps.new }
 {
     let room = list.len();
     let values = check::check(file, room, room, room, taps.len())?;

@@ -9,7 +9,7 @@ use mathlib.Core.List.Memᴰ
 use mathlib.Core.List.{List, [], ◌∷◌, ◌++◌, map, Memᴰ}
 use borrow.Author.Tests.{ne_eqb, eq-eqb, le-leb}
 use Rattle.format.specs.declared.Manner.TheVariants.{Strict}
-use Rattle.format.specs.Meaning.{signed, done, fault_of, is_width, signed_kind, answered, number_in, value_in, guarded}
+use Rattle.format.specs.Meaning.{signed, done, fault_of, is_width, answered, number_in, value_in, guarded}
 use Rattle.format.specs.Theorems.{InRange}
 use Rattle.grammar.specs.Meaning.{is_sign, prefix_mark, prefix_radix, literal_minus, literal_radix, literal_of}
 use Rattle.grammar.specs.Literals.{short-prefix, same-either, Opens}

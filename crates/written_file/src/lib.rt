@@ -1,7 +1,14 @@
-// A library of laws over the writer and the fitting file: what it proves is in
-// specs/. The one function keeps the crate a crate.
+// A library of laws over the writer and the fitting file: what it proves is in specs/. The one function keeps the crate
+// a crate, and its contract names those of `fitting_list::read_list`, which the program `fit` calls: a file that the
+// writer wrote reads back, and the small files.
 #![tactic(auto)]
 
-pub fn zero() -> u8 {
+ghost use Rattle.fitting_list.specs.Cases.{ListCases};
+ghost use Rattle.written_file.specs.List.{WrittenBackList};
+
+pub fn zero() -> u8
+    ensures written { WrittenBackList }
+    ensures cases { ListCases }
+{
     0
 }

@@ -1,5 +1,5 @@
 -- `fitting_list::read_list` meets its promise: what is refused first; then the list, in which each turn writes one
--- entry more; then the first refused line or the taps. Assumes nothing.
+-- entry more; then the first refused line or the taps. By the tie it meets that of `fitting::read`. Assumes nothing.
 use Rattle.std.proofs.Common.{◌≡◌, ◌≤◌, ◌<◌, ◌++◌, take, drop, ◌∙◌, refl, ap, sym, arith, length}
 use Rattle.std.proofs.Common.{List, ℕ, ℤ, Err, Ok, get_or, w16, to_z, of_z, pos, to_z-of_z, rules, map}
 use Rattle.std.proofs.lemmas.Result.{err_from_is_err_and}
@@ -13,6 +13,7 @@ use Rattle.fitting.proofs.Reading.{Checked, checked-done, refused-line, all_done
 use Rattle.fitting_list.specs.declared.Entry.{Entry}
 use Rattle.fitting_list.specs.Meaning.{entry_of, records, Listed}
 use Rattle.fitting_list.specs.Records.{zero-places, signed-zeros}
+use Rattle.fitting_list.specs.Theorems.{agree}
 use Rattle.fitting_list.specs.Filled.{no_line, entry-is, all-filled, refused-all, handed}
 use Rattle.fitting_list.proofs.read_list.Goals as goal
 
@@ -48,7 +49,8 @@ pub returns-in_err-values : goal.returns-in_err-values
 returns-in_err-values c =
     let a = c.args in
     let p = err_from_is_err_and c.from_residual.result c.from_residual.ensures.1 in
-    gives (p.1 ∙ ap Err p.2) (refused-all a.file.now a.list.now a.taps.now c.in_err-values.ensures)
+    let kept = gives (p.1 ∙ ap Err p.2) (refused-all a.file.now a.list.now a.taps.now c.in_err-values.ensures) in
+    record { records = kept; parts = (agree a.file.now a.list.now a.taps.now _ _ _).0 kept }
 
 pub store-requires : goal.store-requires
 store-requires c =
@@ -114,10 +116,12 @@ returns-in_err-judged c =
     let k = known a.file.now xs a.taps.now ok in
     let list = filled a.file.now xs a.taps.now ok loop.i loop.invariant.stored c.loop-i-test.false loop.auto.i-end in
     let p = err_from_is_err_and c.from_residual-in_err-judged.result c.from_residual-in_err-judged.ensures.1 in
+    let refused =
     gives (p.1 ∙ ap Err p.2)
     (handed a.file.now xs a.taps.now k.none
     (refused-line (length xs) (length xs) (length xs) a.file.now zero-places signed-zeros zero-places a.taps.now k
-    c.store.ensures c.in_err-judged.ensures refl) list)
+    c.store.ensures c.in_err-judged.ensures refl) list) in
+    record { records = refused; parts = (agree a.file.now xs a.taps.now _ _ _).0 refused }
 
 pub keep-requires : goal.keep-requires
 keep-requires c =
@@ -137,6 +141,8 @@ returns c =
     let ok = c.in_ok-values.ensures in
     let k = known a.file.now xs a.taps.now ok in
     let list = filled a.file.now xs a.taps.now ok loop.i loop.invariant.stored c.loop-i-test.false loop.auto.i-end in
+    let done =
     handed a.file.now xs a.taps.now k.none
     (all_done (length xs) (length xs) (length xs) a.file.now zero-places signed-zeros zero-places a.taps.now k
-    c.store.ensures c.in_ok-judged.ensures refl c.keep.ensures) list
+    c.store.ensures c.in_ok-judged.ensures refl c.keep.ensures) list in
+    record { records = done; parts = (agree a.file.now xs a.taps.now _ _ _).0 done }
