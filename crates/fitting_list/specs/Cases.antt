@@ -1,6 +1,5 @@
--- The small files of crates/fitting/specs/Cases.antt with the list as records: by the tie, and not computed again. Assumes nothing.
-use Rattle.std.specs.Prelude.{◌≡◌, refl, List, [], ◌∷◌, ℕ, ◌<◌, ◌≤◌, ℤ, pos, negsuc, length, replicate, Ok, Err}
-use Rattle.std.proofs.Common.{sym}
+-- The small files of crates/fitting/specs/Cases.antt with the list as records; proofs/Cases.antt proves that all of this holds. Assumes nothing.
+use Rattle.std.specs.Prelude.{◌≡◌, List, [], ◌∷◌, ℕ, ◌<◌, ◌≤◌, ℤ, pos, negsuc, length, replicate, Ok, Err}
 use Prim.Native.String.{String}
 use Rattle.laws.specs.Text.{bytes}
 use Rattle.format.specs.declared.refusal.Refusal.TheVariants.{TooLong, TooManyValues}
@@ -9,12 +8,12 @@ use Rattle.filter.specs.Meaning.{most_taps}
 use Rattle.value_lines.specs.Meaning.{file_limit, values_of}
 use Rattle.fitting.specs.declared.FileRefusal.TheVariants.{Whole, Line}
 use Rattle.fitting.specs.Meaning.{FileAnswer}
-use Rattle.fitting.specs.Room.{checked-long, checked-many}
-use Rattle.fitting.specs.Cases.{taps-case, line-case, damaged-cases, refusal-cases}
 use Rattle.fitting_list.specs.declared.Entry.{Entry}
 use Rattle.fitting_list.specs.Meaning.{records, records_of}
-use Rattle.fitting_list.specs.Filled.{refused-all}
-use Rattle.fitting_list.specs.Theorems.{entry, by-tie}
+
+-- line number, raw and answer
+abbrev entry : ℕ → ℤ → ℕ → Entry
+entry line raw answer = record { line = line; raw = raw; answer = answer }
 
 -- taps and a list of some places, all 7
 abbrev signed-sevens : ℕ → List ℤ
@@ -56,23 +55,3 @@ pub record ListCases : Type 0 where
   pub order-list-cases : (file : List ℕ) (xs : List Entry) (taps : List ℤ)
       → (file_limit < length file → records_of file xs taps ≡ records (Err (Whole TooLong)) xs taps)
       × (length file ≤ file_limit → most_taps < length (values_of file) → records_of file xs taps ≡ records (Err (Whole TooManyValues)) xs taps)
-
-pub list-cases : ListCases
-list-cases = record {
-  taps-list-case = by-tie _ _ _ _ _ _ taps-case;
-  line-list-case = by-tie _ _ _ _ _ _ line-case;
-  damaged-list-cases =
-      (by-tie _ _ _ _ _ _ damaged-cases.0, (by-tie _ _ _ _ _ _ damaged-cases.1.0, by-tie _ _ _ _ _ _ damaged-cases.1.1));
-  refusal-list-cases = (
-    by-tie _ _ _ _ _ _ refusal-cases.0,
-    (
-      by-tie _ _ _ _ _ _ refusal-cases.1.0,
-      (by-tie _ _ _ _ _ _ refusal-cases.1.1.0, by-tie _ _ _ _ _ _ refusal-cases.1.1.1),
-    ),
-  );
-  order-list-cases = λ file xs taps.
-      let n = length xs in (
-        λ h. sym (refused-all file xs taps (checked-long file n n n (length taps) h)),
-        λ h k. sym (refused-all file xs taps (checked-many file n n n (length taps) h refl k)),
-      );
-}

@@ -13,7 +13,7 @@ use Rattle.fitting.proofs.Reading.{Checked, checked-done, refused-line, all_done
 use Rattle.fitting_list.specs.declared.Entry.{Entry}
 use Rattle.fitting_list.specs.Meaning.{entry_of, records, Listed}
 use Rattle.fitting_list.specs.Records.{zero-places, signed-zeros}
-use Rattle.fitting_list.specs.Theorems.{agree}
+use Rattle.fitting_list.proofs.Theorems.{agree}
 use Rattle.fitting_list.specs.Filled.{no_line, entry-is, all-filled, refused-all, handed}
 use Rattle.fitting_list.proofs.read_list.Goals as goal
 
