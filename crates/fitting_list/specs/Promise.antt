@@ -13,7 +13,8 @@ ReadsList file list taps r list' taps' = records r list' taps' ≡ records_of fi
 -- what `fitting::read` promises, of the list's line numbers, raws and answers as its three slices
 abbrev pub ReadsParts : List ℕ → List Entry → List ℤ → FileAnswer → List Entry → List ℤ → Type 0
 ReadsParts file list taps r list' taps' =
-    Reads file (lines_in list) (raws_in list) (answers_in list) taps r (lines_in list') (raws_in list') (answers_in list') taps'
+    Reads file (lines_in list) (raws_in list) (answers_in list) taps r
+    (lines_in list') (raws_in list') (answers_in list') taps'
 
 pub read-list-unique : (file : List ℕ) (list : List Entry) (taps : List ℤ) (a b : FileAnswer) (l m : List Entry)
     (t u : List ℤ)

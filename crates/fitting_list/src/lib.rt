@@ -16,8 +16,8 @@ pub struct Entry {
 }
 
 // The list and the taps as `fitting::read` writes them, with the list as one lent slice of records. The value lines are
-// found in three arrays: `value_lines::store` and `judge` take three slices, which C lends to `fitting::read`. The second
-// clause is the promise of `fitting::read`, of the list's parts: what is proved of that call holds of this one.
+// found in three arrays: `value_lines::store` and `judge` take three slices, which C lends to `fitting::read`.
+// The second clause is the promise of `fitting::read`, of the list's parts: what is proved of that holds here.
 pub fn read_list(file: &[u8], list: &mut [Entry], taps: &mut [i16]) -> FileAnswer
     ensures records { ReadsList file.now list.old taps.old result list.new taps.new }
     ensures parts { ReadsParts file.now list.old taps.old result list.new taps.new }
