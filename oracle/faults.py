@@ -3,16 +3,19 @@
 
 Writes FOLDER/NAME.a for each fault. A constant may stand in the code several times, all of them are changed; a fault whose constant is not
 found is said so, and then the compiler has made other code of it. With `run` the comparison with the exact model is made with each copy, and
-the runs that noticed are printed; a fault of NOTICED that no run notices is a failure, and so is one of BESIDE that its program
-(oracle/program) does not notice.
+the runs that noticed are printed; a fault of NOTICED that no run notices is a failure, and so is one of EQUAL that one does, and one of BESIDE that
+its program (oracle/program) does not notice.
 """
 import pathlib
 import re
 import subprocess
 import sys
 
-# tens::prefix: the divisor
+# tens::prefix: the divisor, its negative and its double modulo 2^64, and the reciprocal of its upper half times 2^95
 DIVISOR = 14901161193847656250
+NEGATIVE = 2**64 - DIVISOR
+DOUBLE = 2 * DIVISOR - 2**64
+RECIPROCAL = 0x9E74D1B84CEFF5A5
 
 
 def word(constant, by):
@@ -24,7 +27,10 @@ def word(constant, by):
 NOTICED = {
     "divisor": word(DIVISOR, 2**40),
     "divisor_less": word(DIVISOR, -1),
-    "divisor_more": word(DIVISOR, 1),
+    "divisor_64": word(DIVISOR, 64),
+    "double_64": word(DOUBLE, 64),
+    "reciprocal": word(RECIPROCAL, 1),
+    "reciprocal_less": word(RECIPROCAL, -(2**30)),
     "power_of_ten": word(5**18, 1),  # its fives
     # cmp $imm32,%rsi: the first length that is too long
     "limit": [(b"\x48\x81\xfe" + (4097).to_bytes(4, "little"), b"\x48\x81\xfe" + (4096).to_bytes(4, "little"))],
@@ -34,6 +40,17 @@ NOTICED = {
     "nine": [(b"\x41\x80\xfe\x39", b"\x41\x80\xfe\x38")],
 }
 
+# changes that change no answer; oracle/README.md says why
+EQUAL = {
+    "divisor_1": word(DIVISOR, 1),
+    "divisor_63": word(DIVISOR, 63),
+    "negative_1": word(NEGATIVE, 1),
+    "double_1": word(DOUBLE, 1),
+    "double_63": word(DOUBLE, 63),
+    "reciprocal_2_20": word(RECIPROCAL, -(2**20)),
+    "reciprocal_2_29": word(RECIPROCAL, -(2**29)),
+}
+
 # faults for the programs beside: the program that must notice, and the change
 BESIDE = {
     # mov $31,%eax: the refusal of a zero divisor
@@ -41,17 +58,17 @@ BESIDE = {
     # the reciprocal of 10 times 2^67
     "tenth": ("decimal", word(0xCCCCCCCCCCCCCCCD, 1)),
     # setne beside sete, of a clip byte in its place
-    "clip": ("filter", [(b"\x42\x0f\x95\x04\x23", b"\x42\x0f\x94\x04\x23")]),
-    # cmp $0x7fff,%rax: the highest sample, to which the one below it is held too
-    "highest": ("filter", [(b"\x48\x3d\xff\x7f\x00\x00", b"\x48\x3d\xfe\x7f\x00\x00")]),
-    # bt $15,%r13d: whether the whole part is odd; adc $16383,%r13: half a step less one; in the headroom check %r11 and %rdi
-    "even": ("filter", [(b"\x41\x0f\xba\xe5\x0f", b"\x41\x0f\xba\xe5\x10")]),
-    "half": ("filter", [(b"\x49\x81\xd5\xff\x3f\x00\x00", b"\x49\x81\xd5\xfe\x3f\x00\x00")]),
-    "half_of_peaks": ("filter", [(b"\x49\x81\xd3\xff\x3f\x00\x00", b"\x49\x81\xd3\xfe\x3f\x00\x00"), (b"\x48\x81\xd7\xff\x3f\x00\x00", b"\x48\x81\xd7\xfe\x3f\x00\x00")]),
-    # mov $63,%r14d: the place before the line, once it is taken back to the window's end
-    "gap": ("filter", [(b"\x41\xbe\x3f\x00\x00\x00", b"\x41\xbe\x3e\x00\x00\x00")]),
+    "clip": ("filter", [(b"\x42\x0f\x95\x04\x28", b"\x42\x0f\x94\x04\x28")]),
+    # cmp $0x7fff,%rcx: the highest sample, to which the one below it is held too
+    "highest": ("filter", [(b"\x48\x81\xf9\xff\x7f\x00\x00", b"\x48\x81\xf9\xfe\x7f\x00\x00")]),
+    # bt $15,%eax before adc: whether the whole part is odd; adc $16383,%rax: half a step less one; in the headroom check %r11 and %r8
+    "even": ("filter", [(b"\x0f\xba\xe0\x0f\x48\x15", b"\x0f\xba\xe0\x10\x48\x15")]),
+    "half": ("filter", [(b"\x48\x15\xff\x3f\x00\x00", b"\x48\x15\xfe\x3f\x00\x00")]),
+    "half_of_peaks": ("filter", [(b"\x49\x81\xd3\xff\x3f\x00\x00", b"\x49\x81\xd3\xfe\x3f\x00\x00"), (b"\x49\x81\xd0\xff\x3f\x00\x00", b"\x49\x81\xd0\xfe\x3f\x00\x00")]),
+    # mov $63,%ebp: the place before the line, once it is taken back to the window's end
+    "gap": ("filter", [(b"\xbd\x3f\x00\x00\x00", b"\xbd\x3e\x00\x00\x00")]),
 }
-ALL = NOTICED | {name: changes for name, (_, changes) in BESIDE.items()}
+ALL = NOTICED | EQUAL | {name: changes for name, (_, changes) in BESIDE.items()}
 
 
 def write(archive, target, name, changes):
@@ -98,7 +115,7 @@ def main(archive, folder, *run):
         elif run:
             found = noticed(name, copy)
             print(f"  {', '.join(found) or 'no run'}", flush=True)
-            wrong += not found
+            wrong += bool(found) == (name in EQUAL)
     if run:
         print(f"{len(ALL) - wrong} passed, {wrong} failed")
     return wrong > 0
