@@ -27,6 +27,8 @@ pub fn text_sample(seed: u64) {
     println!(
         "# kind (p plain, l literal), signed, width, frac, radix, manner, number, flag, value, text in hexadecimal (- if empty)"
     );
+    println!("# of a text a digit above 9 counts in lower case alone, else as 0: the next line asks for 2031");
+    in_upper_case();
     let mut random = Random::new(seed);
     for stated in pages::telling_texts().iter().chain(pages::witnesses().iter().map(|witness| &witness.right)) {
         line(stated.text, stated.reader, stated.format);
@@ -172,16 +174,25 @@ fn refusals() {
     line(&long, Reader::Literal, Format { signed: true, width: 16, frac: 8 });
 }
 
-/// One question with its answer. The literal reader has no radix and no manner of its own: both are written as 0.
+/// The text ` 1` with an upper-case digit where it has a 0: with `D` as a digit it would be `-1`, which has another answer.
+fn in_upper_case() {
+    let reader = Reader::Plain { radix: 10, manner: STRICT };
+    line_as("2D31", b" 1", reader, Format { signed: true, width: 8, frac: 0 });
+}
+
 fn line(text: &[u8], reader: Reader, format: Format) {
+    let hexadecimal: String = text.iter().map(|byte| format!("{byte:02x}")).collect();
+    line_as(if hexadecimal.is_empty() { "-" } else { &hexadecimal }, text, reader, format);
+}
+
+/// One question with its answer. The literal reader has no radix and no manner of its own: both are written as 0.
+fn line_as(shown: &str, text: &[u8], reader: Reader, format: Format) {
     let (kind, radix, manner) = match reader {
         Reader::Plain { radix, manner } => ('p', radix, manner),
         Reader::Literal => ('l', 0, 0),
     };
     let Answer { number, flag, value } = stored(text, reader, format);
     let (signed, flag) = (u8::from(format.signed), u8::from(flag));
-    let hexadecimal: String = text.iter().map(|byte| format!("{byte:02x}")).collect();
-    let shown = if hexadecimal.is_empty() { "-" } else { &hexadecimal };
     println!("{kind} {signed} {} {} {radix} {manner} {number} {flag} {value} {shown}", format.width, format.frac);
 }
 

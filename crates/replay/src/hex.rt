@@ -1,8 +1,6 @@
 // The text of a line, two hexadecimal digits a byte.
 ghost use Rattle.std.specs.Prelude.{◌≤◌};
 
-use grammar::byte;
-
 // A little more than the longest text that is read, so that a longer one can be stored.
 const ROOM: usize = 4100;
 
@@ -42,7 +40,12 @@ impl Text {
     }
 }
 
-// What is no digit, 16 of `digit_of`, counts as 0.
+// A digit above 9 counts in lower case alone, as the files have it, and any other byte as 0. `digit_of` of `grammar`
+// takes both cases.
 fn value(b: u8) -> u8 {
-    (byte::digit_of(b) % 16) as u8
+    match b {
+        b'0'..=b'9' => b - b'0',
+        b'a'..=b'f' => b - b'a' + 10,
+        _ => 0,
+    }
 }
