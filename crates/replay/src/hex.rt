@@ -20,6 +20,11 @@ impl Text {
         }
     }
 
+    // An empty text. Bytes of the one before stay in the room: each is written anew before it counts.
+    pub(crate) fn clear(&mut self) {
+        self.digits = 0;
+    }
+
     // One more digit. An empty text is a `-`, which is none.
     pub(crate) fn put(&mut self, b: u8) {
         if b == b'-' || self.digits >= 2 * ROOM {

@@ -41,6 +41,14 @@ impl Line {
         }
     }
 
+    // A new line: of the one before nothing counts any more. The room of the text is not zeroed: most lines are short.
+    pub(crate) fn clear(&mut self) {
+        self.kind = Kind::Other;
+        self.numbers = [Number::ZERO; NUMBERS];
+        self.text.clear();
+        self.at = 0;
+    }
+
     // The next field. Further blanks, as a comment has, stay in the last.
     pub(crate) fn next(&mut self) {
         if self.at <= NUMBERS {

@@ -67,14 +67,14 @@ fn whole(file: &mut impl Read) -> io::Result<Tally> {
     Ok(tally)
 }
 
-// At the end of a line asks what it asks, and begins a new one: of the one before nothing is left.
+// At the end of a line asks what it asks, and begins a new one.
 fn step(b: u8, line: &mut Line, tally: &mut Tally) {
     match b {
         b'\n' => {
             if let Some(differs) = asked::differs(line) {
                 tally.count(differs);
             }
-            *line = Line::new();
+            line.clear();
         }
         b' ' => line.next(),
         _ => line.put(b),
