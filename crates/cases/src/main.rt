@@ -21,37 +21,37 @@ fn manners(rt: &impl Print) -> io::Result<()> {
 fn narrow(rt: &impl Print) -> io::Result<()> {
     shown::answer(
         rt,
-        "W 8 signed F 4, 7.96875 is 128 steps, strict",
+        b"W 8 signed F 4, 7.96875 is 128 steps, strict",
         format::settle::<i64>(steps(128), 8, 4, Manner::Strict),
     )?;
     shown::answer(
         rt,
-        "W 8 signed F 4, -8.03125 is -128 steps, strict",
+        b"W 8 signed F 4, -8.03125 is -128 steps, strict",
         format::settle::<i64>(below(128), 8, 4, Manner::Strict),
     )?;
     shown::answer(
         rt,
-        "W 8 signed F 0, 127.5 is 128 steps, wrapping",
+        b"W 8 signed F 0, 127.5 is 128 steps, wrapping",
         format::settle::<i64>(steps(128), 8, 0, Manner::Wrapping),
     )?;
     shown::answer(
         rt,
-        "W 8 signed F 0, 127.5 is 128 steps, saturating",
+        b"W 8 signed F 0, 127.5 is 128 steps, saturating",
         format::settle::<i64>(steps(128), 8, 0, Manner::Saturating),
     )?;
     shown::answer(
         rt,
-        "W 8 signed F 0, 127.5 is 128 steps, overflowing",
+        b"W 8 signed F 0, 127.5 is 128 steps, overflowing",
         format::settle::<i64>(steps(128), 8, 0, Manner::Overflowing),
     )?;
     shown::answer(
         rt,
-        "W 8 unsigned F 0, -0.4 is -0 steps, strict",
+        b"W 8 unsigned F 0, -0.4 is -0 steps, strict",
         format::settle::<u64>(below(0), 8, 0, Manner::Strict),
     )?;
     shown::answer(
         rt,
-        "W 8 unsigned F 0, -0.6 is -1 steps, strict",
+        b"W 8 unsigned F 0, -0.6 is -1 steps, strict",
         format::settle::<u64>(below(1), 8, 0, Manner::Strict),
     )
 }
@@ -59,22 +59,22 @@ fn narrow(rt: &impl Print) -> io::Result<()> {
 fn wider(rt: &impl Print) -> io::Result<()> {
     shown::answer(
         rt,
-        "I1F15, -1 is -32768 steps, strict",
+        b"I1F15, -1 is -32768 steps, strict",
         format::settle::<i64>(below(32768), 16, 15, Manner::Strict),
     )?;
     shown::answer(
         rt,
-        "I1F15, 1 is 32768 steps, strict",
+        b"I1F15, 1 is 32768 steps, strict",
         format::settle::<i64>(steps(32768), 16, 15, Manner::Strict),
     )?;
     shown::answer(
         rt,
-        "I1F15, 0.99998 is 32767 steps, strict",
+        b"I1F15, 0.99998 is 32767 steps, strict",
         format::settle::<i64>(steps(32767), 16, 15, Manner::Strict),
     )?;
     shown::answer(
         rt,
-        "W 32 F 16 signed, maximum plus one step, wrapping",
+        b"W 32 F 16 signed, maximum plus one step, wrapping",
         format::settle::<i64>(steps(2147483648), 32, 16, Manner::Wrapping),
     )
 }

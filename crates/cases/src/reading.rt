@@ -12,22 +12,22 @@ pub fn plain(rt: &impl Print) -> io::Result<()> {
 fn four_fraction_bits(rt: &impl Print) -> io::Result<()> {
     shown::answer(
         rt,
-        "W 8 signed F 4, 7.96875, strict",
+        b"W 8 signed F 4, 7.96875, strict",
         text::read::<i64>(b"7.96875", 8, 4, 10, Manner::Strict),
     )?;
     shown::answer(
         rt,
-        "W 8 signed F 4, -8.03125, strict",
+        b"W 8 signed F 4, -8.03125, strict",
         text::read::<i64>(b"-8.03125", 8, 4, 10, Manner::Strict),
     )?;
     shown::answer(
         rt,
-        "W 8 signed F 4, 0.03125, strict",
+        b"W 8 signed F 4, 0.03125, strict",
         text::read::<i64>(b"0.03125", 8, 4, 10, Manner::Strict),
     )?;
     shown::answer(
         rt,
-        "W 8 signed F 4, 0.09375, strict",
+        b"W 8 signed F 4, 0.09375, strict",
         text::read::<i64>(b"0.09375", 8, 4, 10, Manner::Strict),
     )
 }
@@ -35,32 +35,32 @@ fn four_fraction_bits(rt: &impl Print) -> io::Result<()> {
 fn no_fraction_bits(rt: &impl Print) -> io::Result<()> {
     shown::answer(
         rt,
-        "W 8 signed F 0, 127.5, strict",
+        b"W 8 signed F 0, 127.5, strict",
         text::read::<i64>(b"127.5", 8, 0, 10, Manner::Strict),
     )?;
     shown::answer(
         rt,
-        "W 8 signed F 0, 127.5, wrapping",
+        b"W 8 signed F 0, 127.5, wrapping",
         text::read::<i64>(b"127.5", 8, 0, 10, Manner::Wrapping),
     )?;
     shown::answer(
         rt,
-        "W 8 signed F 0, 127.5, saturating",
+        b"W 8 signed F 0, 127.5, saturating",
         text::read::<i64>(b"127.5", 8, 0, 10, Manner::Saturating),
     )?;
     shown::answer(
         rt,
-        "W 8 signed F 0, -128.5, strict",
+        b"W 8 signed F 0, -128.5, strict",
         text::read::<i64>(b"-128.5", 8, 0, 10, Manner::Strict),
     )?;
     shown::answer(
         rt,
-        "W 8 unsigned F 0, -0.4, strict",
+        b"W 8 unsigned F 0, -0.4, strict",
         text::read::<u64>(b"-0.4", 8, 0, 10, Manner::Strict),
     )?;
     shown::answer(
         rt,
-        "W 8 unsigned F 0, -0.6, strict",
+        b"W 8 unsigned F 0, -0.6, strict",
         text::read::<u64>(b"-0.6", 8, 0, 10, Manner::Strict),
     )
 }
@@ -68,22 +68,22 @@ fn no_fraction_bits(rt: &impl Print) -> io::Result<()> {
 fn taps(rt: &impl Print) -> io::Result<()> {
     shown::answer(
         rt,
-        "I1F15, -1, strict",
+        b"I1F15, -1, strict",
         text::read::<i64>(b"-1", 16, 15, 10, Manner::Strict),
     )?;
     shown::answer(
         rt,
-        "I1F15, 1, strict",
+        b"I1F15, 1, strict",
         text::read::<i64>(b"1", 16, 15, 10, Manner::Strict),
     )?;
     shown::answer(
         rt,
-        "I1F15, 0.99998, strict",
+        b"I1F15, 0.99998, strict",
         text::read::<i64>(b"0.99998", 16, 15, 10, Manner::Strict),
     )?;
     shown::answer(
         rt,
-        "I1F15, 0.99999, strict",
+        b"I1F15, 0.99999, strict",
         text::read::<i64>(b"0.99999", 16, 15, 10, Manner::Strict),
     )
 }
@@ -92,12 +92,12 @@ fn taps(rt: &impl Print) -> io::Result<()> {
 fn ties(rt: &impl Print) -> io::Result<()> {
     shown::answer(
         rt,
-        "W 8 signed F 0, 1.5, strict",
+        b"W 8 signed F 0, 1.5, strict",
         text::read::<i64>(b"1.5", 8, 0, 10, Manner::Strict),
     )?;
     shown::answer(
         rt,
-        "W 8 signed F 0, 2.5, strict",
+        b"W 8 signed F 0, 2.5, strict",
         text::read::<i64>(b"2.5", 8, 0, 10, Manner::Strict),
     )
 }
@@ -105,37 +105,37 @@ fn ties(rt: &impl Print) -> io::Result<()> {
 pub fn literals(rt: &impl Print) -> io::Result<()> {
     shown::answer(
         rt,
-        "I1F15, literal +1",
+        b"I1F15, literal +1",
         text::read_literal::<i64>(b"+1", 16, 15),
     )?;
     shown::answer(
         rt,
-        "I1F15, literal 0x-1",
+        b"I1F15, literal 0x-1",
         text::read_literal::<i64>(b"0x-1", 16, 15),
     )?;
     shown::answer(
         rt,
-        "I1F15, empty literal",
+        b"I1F15, empty literal",
         text::read_literal::<i64>(b"", 16, 15),
     )?;
     shown::answer(
         rt,
-        "I1F15, literal -",
+        b"I1F15, literal -",
         text::read_literal::<i64>(b"-", 16, 15),
     )?;
     shown::answer(
         rt,
-        "W 16 unsigned F 15, literal -",
+        b"W 16 unsigned F 15, literal -",
         text::read_literal::<u64>(b"-", 16, 15),
     )?;
     shown::answer(
         rt,
-        "I1F15, literal 0X1",
+        b"I1F15, literal 0X1",
         text::read_literal::<i64>(b"0X1", 16, 15),
     )?;
     shown::answer(
         rt,
-        "I1F15, literal -0x_0.8",
+        b"I1F15, literal -0x_0.8",
         text::read_literal::<i64>(b"-0x_0.8", 16, 15),
     )
 }
