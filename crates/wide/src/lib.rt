@@ -1,7 +1,8 @@
 // Numbers of up to 128 bits as two words of 64, at the width that reading, arithmetic and conversion need (S: `u128`
 // and src/int256.rs). Two words and no `u128`, since document 01 asks for pairs of words, C hands a number over as two
 // (`tq_settle_signed`, `tq_settle_unsigned`), and the theorems of specs/ speak of them (`same-value`); what is computed
-// is computed on a `u128`. Inner functions: the crates above meet what they require.
+// is computed on a `u128`, but for the division of two words (divide.rt). Inner functions: the crates above meet what
+// they require.
 #![tactic(auto)]
 
 ghost use Rattle.std.specs.Prelude.{◌≡◌, ◌+◌, ◌*◌, ◌^◌, ◌<◌, ◌≤◌};
