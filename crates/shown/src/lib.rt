@@ -4,8 +4,8 @@
 use format::{Answer, Answered, Raw};
 use std::io;
 
-// What was asked need be no text. Answers of both signs and refusals are printed by one call, since each takes 2.7 kB of
-// stack.
+// What was asked need be no text. Answers of both signs and refusals are printed by one call, since each takes 2.7 kB
+// of stack.
 pub fn answer<R: Raw + Into<i128>>(
     rt: &impl Print,
     asked: &[u8],
