@@ -1,12 +1,12 @@
 -- The bytes of a number: the next one, behind or before those that are there, and the bytes in the other order. Assumes nothing.
-use Rattle.std.specs.Prelude.{◌≡◌, take, replicate}
+use Rattle.std.specs.Prelude.{◌≡◌, take}
 use Rattle.std.proofs.Math.Path.{refl, sym, ap, ap₂}
 use Rattle.std.proofs.Common.{◌∙◌, mod-lt, lit<, pow-add, arith}
 use mathlib.Core.List.{List, [], ◌∷◌, ◌++◌, reverse, reverse_aux}
 use Prim.Native.Nat.{ℕ, zero, suc, ◌+◌, ◌*◌, ◌/◌, ◌%◌, ◌^◌, ◌≤◌, ◌<◌}
 use Rattle.std.proofs.Math.Arith.{digits_div, digits_mod}
 use Rattle.std.proofs.Math.Nat.{div-div-eq-div-mul, div-one, pow-succ'}
-use Rattle.byte_order.specs.Meaning.{le_bytes, from_le, from_be}
+use Rattle.byte_order.specs.Meaning.{le_bytes, from_be}
 
 -- i bytes make a number below 2^(8 i)
 pub below_next : (r i b : ℕ) → r < 2 ^ (8 * i) → b < 256 → r * 256 + b < 2 ^ (8 * (i + 1))
@@ -52,18 +52,6 @@ swapped-front n (suc k) x =
     ∙ sym (bytes_past k (all * 256 + b))
     ∙ ap (λ (v : ℕ). v / 256 ^ k) (digits_div all {m = 256} low)
     ∙ swapped-front n k x
-
--- zeros above the bytes change nothing
-pub le-zeros : (l : List ℕ) (m : ℕ) → from_le (l ++ replicate m 0) ≡ from_le l
-unfolding from_le
-le-zeros [] zero = refl
-le-zeros [] (suc m) = ap (λ (r : ℕ). r * 256 + 0) (le-zeros [] m)
-le-zeros (b ∷ t) m = ap (λ (r : ℕ). r * 256 + b) (le-zeros t m)
-
-pub be-zeros : (m : ℕ) (l : List ℕ) → from_be 0 (replicate m 0 ++ l) ≡ from_be 0 l
-unfolding from_be
-be-zeros zero l = refl
-be-zeros (suc m) l = be-zeros m l
 
 -- The bytes of the swapped number are the bytes in the other order: behind the bytes of a, those of x are turned one by one.
 pub swapped-bytes : (n x k a : ℕ) → le_bytes (n + k) (from_be a (le_bytes n x)) ≡ reverse_aux (le_bytes n x) (le_bytes k a)

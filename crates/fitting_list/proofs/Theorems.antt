@@ -9,9 +9,6 @@ use Rattle.fitting_list.specs.Promise.{ReadsList, ReadsParts}
 use Rattle.fitting_list.specs.Theorems.{tie}
 
 -- a list of records is its three parts
-abbrev entry : ℕ → ℤ → ℕ → Entry
-entry line raw answer = record { line = line; raw = raw; answer = answer }
-
 same-list : (xs ys : List Entry) → lines_in xs ≡ lines_in ys → raws_in xs ≡ raws_in ys → answers_in xs ≡ answers_in ys → xs ≡ ys
 same-list [] [] p q r = refl
 same-list [] (y ∷ ys) p q r = cc
@@ -20,8 +17,7 @@ same-list (x ∷ xs) (y ∷ ys) p q r =
     let a : x.line ≡ y.line = cc in
     let b : x.raw ≡ y.raw = cc in
     let c : x.answer ≡ y.answer = cc in
-    let made : entry x.line x.raw x.answer ≡ entry y.line y.raw y.answer = rw (a, b, c) in
-    let head : x ≡ y = made in
+    let head : x ≡ y = λ i. record { line = a i; raw = b i; answer = c i } in
     let tail = same-list xs ys (ap (drop 1) p) (ap (drop 1) q) (ap (drop 1) r) in
     rw (head, tail)
 
@@ -29,8 +25,8 @@ same-parts : (f g : Listed) → in_parts f ≡ in_parts g → f ≡ g
 same-parts f g e =
     let list = same-list f.list g.list (ap (λ (t : Fitted). t.lines) e) (ap (λ (t : Fitted). t.raws) e) (ap (λ (t : Fitted). t.answers) e) in
     let answer = ap (λ (t : Fitted). t.answer) e in
-    let made : records f.answer f.list f.taps ≡ records g.answer g.list g.taps = rw (answer, list, ap (λ (t : Fitted). t.taps) e) in
-    made
+    let taps = ap (λ (t : Fitted). t.taps) e in
+    λ i. record { answer = answer i; list = list i; taps = taps i }
 
 -- THE TWO PROMISES AGREE: what meets the one meets the other.
 pub agree : (file : List ℕ) (xs : List Entry) (taps : List ℤ) (r : FileAnswer) (ys : List Entry) (last : List ℤ)
